@@ -1,0 +1,3 @@
+pub mod Row
+pub mod Shape
+pub mod Calls
