@@ -1,3 +1,4 @@
+pub mod Calls
+pub mod Raising
 pub mod Row
 pub mod Shape
-pub mod Calls

@@ -29,13 +29,15 @@ pub memory-shaped : (bs : List ℕ) → Shaped (pagesIn (length bs)) (memoryRow 
 memory-shaped bs = record {
   few = omega arith;
   exact = λ k. there (ltb k (pagesIn (length bs))) (sound (pageOf bs k));
-  whole = λ k. whole-if (ltb k (pagesIn (length bs))) (sound (pageOf bs k)) (λ e. length-page bs k (ltb-true k (pagesIn (length bs)) e)) }
+  whole = λ k. whole-if (ltb k (pagesIn (length bs))) (sound (pageOf bs k)) (λ e. length-page bs k (ltb-true k (pagesIn (length bs)) e));
+}
 
 pub archive-shaped : (bs : List ℕ) → Shaped (pagesIn (length bs)) (archiveRow bs)
 archive-shaped bs = record {
   few = omega arith;
   exact = λ k. there (ltb k (pagesIn (length bs))) (worn (made k) (pageOf bs k));
-  whole = λ k. whole-if (ltb k (pagesIn (length bs))) (worn (made k) (pageOf bs k)) (λ e. length-page bs k (ltb-true k (pagesIn (length bs)) e)) }
+  whole = λ k. whole-if (ltb k (pagesIn (length bs))) (worn (made k) (pageOf bs k)) (λ e. length-page bs k (ltb-true k (pagesIn (length bs)) e));
+}
 
 there-is : (b : Bool) (p : Page) → b ≡ true → cond b (Some p) None ≡ Some p
 there-is true p h = refl

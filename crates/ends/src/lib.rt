@@ -2,6 +2,7 @@
 mod archive;
 mod bytes;
 mod memory;
+
 pub use archive::Archive;
 pub use archive::ArchiveDevice;
 pub use memory::Memory;

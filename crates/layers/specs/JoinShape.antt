@@ -12,7 +12,7 @@ use Rattle.device.specs.declared.device.Device as device
 use Rattle.device.specs.Row.{Page, Row, upAt}
 use Rattle.device.specs.Shape.{Shaped, Whole}
 use Rattle.layers.specs.declared.join.Join.{Join}
-use Rattle.layers.specs.Raising.{ltb-same, some-up, whole-up}
+use Rattle.device.specs.Raising.{ltb-same, some-up, whole-up}
 use Rattle.layers.specs.Join.{joinRow, joinSize}
 
 exact-at : (n m k : ℕ) (o q : Option Page) → isSome o ≡ ltb k n → isSome q ≡ ltb (k - n) m → (a : Bool) → ltb k 4294967295 ≡ a → (b : Bool) → ltb k n ≡ b → isSome (cond a (upAt (cond b o q)) None) ≡ ltb k (joinSize n m)
@@ -29,7 +29,8 @@ pub join-shaped : (n m : ℕ) (r t : Row) → Shaped n r → Shaped m t → Shap
 join-shaped n m r t s u = record {
   few = omega arith;
   exact = λ k. exact-at n m k (r k) (t (k - n)) (s .exact k) (u .exact (k - n)) (ltb k 4294967295) refl (ltb k n) refl;
-  whole = λ k. whole-at (r k) (t (k - n)) (ltb k 4294967295) (ltb k n) (s .whole k) (u .whole (k - n)) }
+  whole = λ k. whole-at (r k) (t (k - n)) (ltb k 4294967295) (ltb k n) (s .whole k) (u .whole (k - n));
+}
 
 -- What a join means, over what its two devices mean.
 abbrev pub joinOf : {F S : Type 0} → device.Ghosts F → device.Ghosts S → device.Ghosts (Join F S)
@@ -37,4 +38,5 @@ joinOf f s = record {
   size = λ j. joinSize (f .size (j .first)) (s .size (j .second));
   row = λ j. joinRow (f .size (j .first)) (f .row (j .first)) (s .row (j .second));
   valid = λ j. f .valid (j .first) × s .valid (j .second);
-  shaped = λ j v. join-shaped (f .size (j .first)) (s .size (j .second)) (f .row (j .first)) (s .row (j .second)) (f .shaped (j .first) (v .0)) (s .shaped (j .second) (v .1)) }
+  shaped = λ j v. join-shaped (f .size (j .first)) (s .size (j .second)) (f .row (j .first)) (s .row (j .second)) (f .shaped (j .first) (v .0)) (s .shaped (j .second) (v .1));
+}

@@ -1,5 +1,4 @@
-pub mod Raising
-pub mod Window
-pub mod WindowShape
 pub mod Join
 pub mod JoinShape
+pub mod Window
+pub mod WindowShape

@@ -12,7 +12,7 @@ use Rattle.device.specs.declared.device.Device as device
 use Rattle.device.specs.Row.{Page, sound, worn, lost, Row, upAt}
 use Rattle.device.specs.Shape.{Shaped, Whole}
 use Rattle.layers.specs.declared.window.Window.{Window}
-use Rattle.layers.specs.Raising.{ltb-same, some-up, whole-up}
+use Rattle.device.specs.Raising.{ltb-same, some-up, whole-up}
 use Rattle.layers.specs.Window.{windowRow, windowSize}
 
 exact-at : (f l k n : ℕ) (o : Option Page) → isSome o ≡ ltb (f + k) n → (b : Bool) → ltb k l ≡ b → isSome (cond b (upAt o) None) ≡ ltb k (windowSize f l n)
@@ -27,7 +27,8 @@ pub window-shaped : (f l n : ℕ) (r : Row) → Shaped n r → Shaped (windowSiz
 window-shaped f l n r s = record {
   few = let h = s .few in omega arith;
   exact = λ k. exact-at f l k n (r (f + k)) (s .exact (f + k)) (ltb k l) refl;
-  whole = λ k. whole-at (r (f + k)) (ltb k l) (s .whole (f + k)) }
+  whole = λ k. whole-at (r (f + k)) (ltb k l) (s .whole (f + k));
+}
 
 -- What a window means, over what the device below means.
 abbrev pub windowOf : {D : Type 0} → device.Ghosts D → device.Ghosts (Window D)
@@ -35,4 +36,5 @@ windowOf d = record {
   size = λ w. windowSize (w .first) (w .length) (d .size (w .below));
   row = λ w. windowRow (w .first) (w .length) (d .row (w .below));
   valid = λ w. d .valid (w .below);
-  shaped = λ w v. window-shaped (w .first) (w .length) (d .size (w .below)) (d .row (w .below)) (d .shaped (w .below) v) }
+  shaped = λ w v. window-shaped (w .first) (w .length) (d .size (w .below)) (d .row (w .below)) (d .shaped (w .below) v);
+}

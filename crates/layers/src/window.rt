@@ -34,7 +34,11 @@ impl<D: Device> Window<D> {
     pub fn into_below(self) -> D
         ensures { λ r. ⌜ r ≡ self .below ⌝ }
     {
-        let Window { below, first: _, length: _ } = self;
+        let Window {
+            below,
+            first: _,
+            length: _,
+        } = self;
         below
     }
 
@@ -62,7 +66,8 @@ pub impl<D: Device> Device for Window<D> as WindowDevice {
     ghost shaped = { windowOf D·Device .shaped };
 
     fn count(&self) -> u32 {
-        self.length.min(self.below.count().saturating_sub(self.first))
+        self.length
+            .min(self.below.count().saturating_sub(self.first))
     }
 
     fn state(&self, page: u32) -> Result<State, Refusal> {

@@ -19,10 +19,11 @@ returns c =
     let w : (page * 512 + 512) - page * 512 ≡ 512 = omega arith in
     -- what the slice holds after the copy
     let put : putMid (page * 512) ((page * 512 + 512) - page * 512) bs (c .copy-from-slice .last .self) ≡ putMid (page * 512) 512 bs (c .args .bytes .now) =
-        ap (λ n. putMid (page * 512) n bs (c .copy-from-slice .last .self)) w ∙ ap (putMid (page * 512) 512 bs) (c .copy-from-slice .ensures .after) in
+    ap (λ n. putMid (page * 512) n bs (c .copy-from-slice .last .self)) w ∙ ap (putMid (page * 512) 512 bs) (c .copy-from-slice .ensures .after) in
     record {
       answer = ap writeAt (sym (memory-there bs page h));
       len = search needs;
       row = λ k. ap (λ (x : List ℕ). memoryRow x k) put ∙ row-put bs (c .args .bytes .now) page h (c .told-bytes) k;
       tail = ap tailOf put ∙ tail-put bs (c .args .bytes .now) page h (c .told-bytes);
-      named = search needs }
+      named = search needs;
+    }

@@ -19,4 +19,5 @@ returns c v =
       size = search needs;
       row = search needs;
       answer = ap readAt (sym e);
-      buffer = c .copy-out .ensures ∙ ap (λ o. filledAt o (c .args .buffer .now)) (sym e) }
+      buffer = c .copy-out .ensures ∙ ap (λ o. filledAt o (c .args .buffer .now)) (sym e);
+    }

@@ -3,7 +3,7 @@ use Rattle.std.specs.Results.{isOk}
 use Rattle.device.specs.Row.{readAt}
 use Rattle.device.proofs.Refused.{refused-read}
 use Rattle.layers.specs.Window.{windowRow, windowSize}
-use Rattle.layers.proofs.Passing.{exit-none}
+use Rattle.device.proofs.Passing.{exit-none}
 use Rattle.layers.proofs.Windows.{window-none}
 use Rattle.layers.proofs.window.WindowDevice.read.Needs as need
 
@@ -15,4 +15,4 @@ returns-in-Break-at g c v =
     let no = c .in-Break-at .ensures tt in
     let out = exit-none (c .from-residual .result) _ (c .from-residual .ensures .1) (no .0) in
     refused-read (windowSize (s .first) (s .length) n) (windowRow (s .first) (s .length) r) (c .args .page) (c .from-residual .result) _ v (ap isOk out) (c .args .buffer .now)
-      (out ∙ ap readAt (sym (window-none (s .first) (s .length) n r (c .args .page) (g .D·Device .shaped (s .below) v) (no .1))))
+    (out ∙ ap readAt (sym (window-none (s .first) (s .length) n r (c .args .page) (g .D·Device .shaped (s .below) v) (no .1))))

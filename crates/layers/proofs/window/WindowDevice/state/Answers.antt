@@ -1,6 +1,6 @@
 use mathlib.Core.Path.{_≡_, sym, ap, _∙_}
 use Rattle.device.specs.Row.{stateAt}
-use Rattle.layers.proofs.Passing.{exit-none}
+use Rattle.device.proofs.Passing.{exit-none}
 use Rattle.layers.proofs.Windows.{window-none}
 use Rattle.layers.proofs.window.WindowDevice.state.Needs as need
 

@@ -3,7 +3,7 @@ use Rattle.std.specs.Results.{isOk}
 use Rattle.device.specs.Row.{writeAt}
 use Rattle.device.proofs.Refused.{refused-write}
 use Rattle.layers.specs.Window.{windowRow, windowSize}
-use Rattle.layers.proofs.Passing.{exit-none, exit-passed}
+use Rattle.device.proofs.Passing.{exit-none, exit-passed}
 use Rattle.layers.proofs.Windows.{window-none, window-did-write}
 use Rattle.layers.proofs.window.WindowDevice.write.Needs as need
 
@@ -15,7 +15,7 @@ returns-in-Break-at g c v =
     let no = c .in-Break-at .ensures tt in
     let out = exit-none (c .from-residual .result) _ (c .from-residual .ensures .1) (no .0) in
     refused-write (windowSize (s .first) (s .length) n) (windowRow (s .first) (s .length) r) (c .args .page) (c .from-residual .result) _ v (ap isOk out) (c .args .bytes .now)
-      (out ∙ ap writeAt (sym (window-none (s .first) (s .length) n r (c .args .page) (g .D·Device .shaped (s .below) v) (no .1))))
+    (out ∙ ap writeAt (sym (window-none (s .first) (s .length) n r (c .args .page) (g .D·Device .shaped (s .below) v) (no .1))))
 
 pub returns-in-Break-deeper : need.returns-in-Break-deeper
 returns-in-Break-deeper g c v =

@@ -8,17 +8,18 @@ use borrow.Author.Tests.{ltb-true, ltb-false, lt-ltb, le-ltb}
 use Rattle.std.specs.Options.{isSome}
 use Rattle.std.specs.declared.option.Option.{Option}
 use Rattle.std.specs.declared.option.Option.the-variants.{Some, None}
 use Rattle.device.specs.Row.{Page, sound, worn, lost, upAt}
 use Rattle.device.specs.Shape.{Whole}
 
 by-test : (a b x y : ℕ) → (a < b → x < y) → (x < y → a < b) → (t : Bool) → ltb a b ≡ t → t ≡ ltb x y
 by-test a b x y p q true e = sym (lt-ltb x y (p (ltb-true a b e)))
 by-test a b x y p q false e = sym (le-ltb x y (not-less x y (λ h. clash a b (q h) (ltb-false a b e))))
   where
-  clash : (a b : ℕ) → a < b → b ≤ a → ⊥
-  clash a b h l = omega arith
-  not-less : (x y : ℕ) → (x < y → ⊥) → y ≤ x
-  not-less x y f = omega arith
+    clash : (a b : ℕ) → a < b → b ≤ a → ⊥
+    clash a b h l = omega arith
+
+    not-less : (x y : ℕ) → (x < y → ⊥) → y ≤ x
+    not-less x y f = omega arith
 
 -- two tests of which each follows from the other
 pub ltb-same : (a b x y : ℕ) → (a < b → x < y) → (x < y → a < b) → ltb a b ≡ ltb x y

@@ -1,0 +1,4 @@
+pub mod Defects
+pub mod DefectShape
+pub mod Marked
+pub mod Spots
