@@ -1,0 +1,8 @@
+ghost use Rattle.piles.specs.Figures.{Figures};
+
+// The worked cases of the definitions hold.
+pub fn figures_hold() -> u8
+    ensures { λ _. ⌜ Figures ⌝ }
+{
+    0
+}

@@ -1,0 +1,5 @@
+// Piles of parts: what whoever works through several layers learns, and worked cases.
+mod figures;
+mod work;
+pub use figures::figures_hold;
+pub use work::work_pile;
