@@ -19,4 +19,5 @@ returns g c v =
       past = λ h. told .wrote ∙ past-end f l n ms r t p h;
       lost = λ h i e. told .wrote ∙ marked-lost f l n ms r t p h shape i e;
       plain = λ h i e. told .wrote ∙ unmarked-below f l n ms r t p h shape i e;
-      beside = λ h i m. told .wrote ∙ other-below f l n ms r t p h i m }
+      beside = λ h i m. told .wrote ∙ other-below f l n ms r t p h i m;
+    }

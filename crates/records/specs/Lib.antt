@@ -1,0 +1,4 @@
+pub mod Little
+pub mod Layout
+pub mod Laws
+pub mod Sentence

@@ -1,0 +1,5 @@
+pub mod Books
+pub mod Entries
+pub mod Lines
+pub mod Tallies
+pub mod Totals
