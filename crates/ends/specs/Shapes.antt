@@ -10,8 +10,11 @@ use borrow.Author.Tests.{ltb-true, lt-ltb}
 use Rattle.std.proofs.shelf.Tests.{false≢true}
 use Rattle.std.specs.Options.{isSome}
 use Rattle.std.specs.declared.option.Option.the-variants.{Some, None}
+use Rattle.device.specs.declared.device.Device as device
 use Rattle.device.specs.Row.{Page, sound, worn}
 use Rattle.device.specs.Shape.{Shaped, Whole}
+use Rattle.ends.specs.declared.archive.Archive.{Archive}
+use Rattle.ends.specs.declared.memory.Memory.{Memory}
 use Rattle.ends.specs.Bytes.{pagesIn, pageOf, memoryRow, archiveRow, made}
 
 pub length-page : (bs : List ℕ) (k : ℕ) → k < pagesIn (length bs) → length (pageOf bs k) ≡ 512
@@ -48,3 +51,20 @@ memory-there bs k h = there-is (ltb k (pagesIn (length bs))) (sound (pageOf bs k
 
 pub archive-there : (bs : List ℕ) (k : ℕ) → k < pagesIn (length bs) → archiveRow bs k ≡ Some (worn (made k) (pageOf bs k))
 archive-there bs k h = there-is (ltb k (pagesIn (length bs))) (worn (made k) (pageOf bs k)) (lt-ltb k (pagesIn (length bs)) h)
+
+-- What a memory and an archive mean, by the bytes that they stand on.
+abbrev pub memoryOf : device.Ghosts Memory
+memoryOf = record {
+  size = λ s. pagesIn (length (s .bytes .now));
+  row = λ s. memoryRow (s .bytes .now);
+  valid = λ _. Unit {0};
+  shaped = λ s _. memory-shaped (s .bytes .now);
+}
+
+abbrev pub archiveOf : device.Ghosts Archive
+archiveOf = record {
+  size = λ s. pagesIn (length (s .bytes .now));
+  row = λ s. archiveRow (s .bytes .now);
+  valid = λ _. Unit {0};
+  shaped = λ s _. archive-shaped (s .bytes .now);
+}

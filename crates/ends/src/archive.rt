@@ -2,7 +2,7 @@ ghost use mathlib.Core.Path.{_≡_};
 ghost use denote.Ref.{now};
 ghost use lib.ListN.{length};
 ghost use Rattle.ends.specs.Bytes.{pagesIn, archiveRow};
-ghost use Rattle.ends.specs.Shapes.{archive-shaped};
+ghost use Rattle.ends.specs.Shapes.{archiveOf};
 use crate::bytes::copy_page;
 use crate::bytes::whole_pages;
 use device::Device;
@@ -18,20 +18,21 @@ pub struct Archive<'a> {
 
 impl<'a> Archive<'a> {
     pub fn new(bytes: &'a [u8]) -> Archive<'a>
-        ensures { λ r. ⌜ now (r .bytes) ≡ now (bytes .entry) ⌝ }
+        ensures bytes { λ r. ⌜ now (r .bytes) ≡ now (bytes .entry) ⌝ }
+        ensures valid { λ r. ⌜ archiveOf .valid r ⌝ }
     {
         Archive { bytes }
     }
 }
 
 pub impl<'a> Device for Archive<'a> as ArchiveDevice {
-    ghost size = { λ s. pagesIn (length (now (s .bytes))) };
+    ghost size = { archiveOf .size };
 
-    ghost row = { λ s. archiveRow (now (s .bytes)) };
+    ghost row = { archiveOf .row };
 
-    ghost valid = { λ _. Unit {0} };
+    ghost valid = { archiveOf .valid };
 
-    ghost shaped = { λ s _. archive-shaped (now (s .bytes)) };
+    ghost shaped = { archiveOf .shaped };
 
     fn count(&self) -> u32 {
         whole_pages(self.bytes.len())

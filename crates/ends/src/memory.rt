@@ -5,7 +5,7 @@ ghost use lib.ListN.{length};
 ghost use Rattle.device.specs.Calls.{DidRead, DidWrite};
 ghost use Rattle.device.specs.Row.{writeAt, written};
 ghost use Rattle.ends.specs.Bytes.{pagesIn, pageOf, tailOf, memoryRow};
-ghost use Rattle.ends.specs.Shapes.{memory-shaped};
+ghost use Rattle.ends.specs.Shapes.{memoryOf};
 use crate::bytes::copy_page;
 use crate::bytes::whole_pages;
 use device::Device;
@@ -22,6 +22,7 @@ impl<'a> Memory<'a> {
     pub fn new(bytes: &'a mut [u8]) -> Memory<'a>
         ensures bytes { λ r. ⌜ now (r .bytes) ≡ now (bytes .entry) ⌝ }
         ensures named { λ r. ⌜ name (r .bytes) ≡ name (bytes .entry) ⌝ }
+        ensures valid { λ r. ⌜ memoryOf .valid r ⌝ }
     {
         Memory { bytes }
     }
@@ -63,13 +64,13 @@ impl Memory<'_> {
 }
 
 pub impl<'a> Device for Memory<'a> as MemoryDevice {
-    ghost size = { λ s. pagesIn (length (now (s .bytes))) };
+    ghost size = { memoryOf .size };
 
-    ghost row = { λ s. memoryRow (now (s .bytes)) };
+    ghost row = { memoryOf .row };
 
-    ghost valid = { λ _. Unit {0} };
+    ghost valid = { memoryOf .valid };
 
-    ghost shaped = { λ s _. memory-shaped (now (s .bytes)) };
+    ghost shaped = { memoryOf .shaped };
 
     fn count(&self) -> u32 {
         whole_pages(self.bytes.len())
