@@ -1,3 +1,3 @@
-mod Fields
-mod Trips
-mod Zeros
+pub mod Fields
+pub mod Trips
+pub mod Zeros

@@ -1,7 +1,7 @@
 use mathlib.Core.Path.{_≡_, refl, sym, ap, subst, _∙_}
-use mathlib.Core.Bool.{Bool, true, false, cond}
-use mathlib.Core.List.{List, [], _∷_, _++_}
-use Prim.Native.Nat.{ℕ, suc, _+_, _≤_, _<_}
+use mathlib.Core.Bool.{Bool, true, false, not, cond}
+use mathlib.Core.List.{List, _∷_, _++_}
+use Prim.Native.Nat.{ℕ, suc, _+_, _<_}
 use native.Mathlib.Omega.{arith}
 use borrow.Author.Tests.{eqb-true}
 use lib.Dec.{eqb, ltb, lit<}
@@ -20,7 +20,7 @@ use Rattle.records.specs.declared.fee.Fee.{Fee}
 use Rattle.records.specs.declared.fee.FeeRecord.{FeeRecord}
 use Rattle.records.specs.declared.fee.FeeRecord.the-variants as fee
 use Rattle.records.specs.Little.{bytesOf, blank}
-use Rattle.records.specs.Layout.{statusOf, recordOf, batchWith, batchIn, batchBytes, batchOf, feeWith, feeIn, feeBytes, feeOf}
+use Rattle.records.specs.Layout.{judged, statusOf, recordOf, batchWith, batchIn, batchBytes, batchOf, feeWith, feeIn, feeBytes, feeOf}
 use Rattle.records.specs.Laws.{Bytes, BatchFits, BatchRecordFits, FeeFits, FeeRecordFits, Inverse}
 use Rattle.records.proofs.Fields.{number-bytes, field-more, field-small, length-bytes, under-bytes}
 use Rattle.records.proofs.Zeros.{zeros, status-zeros, under-zeros}
@@ -30,23 +30,23 @@ pub bytes-from : (n : ℕ) (bs : List ℕ) → length bs ≡ n → ((i : ℕ) �
 bytes-from n bs l h = record { long = l; under = all-from-getD (λ b. b < 256) bs 0 (λ i k. h i) }
 
 -- What holds of the record of each status holds of the record that bytes are read as.
-module _ {R : Type 0} (P : R → Type 0) (empty entered settled : R) (bs : List ℕ) (at : ℕ) (by-empty : blank bs ≡ true → P empty) (by-entered : getD bs at 0 ≡ 1 → blank (drop (at + 1) bs) ≡ true → P entered) (by-settled : getD bs at 0 ≡ 2 → blank (drop (at + 1) bs) ≡ true → P settled) (r : R) where
+module _ {R : Type 0} (P : R → Type 0) (empty entered settled : R) (s : ℕ) (padded bare : Bool) (by-empty : bare ≡ true → P empty) (by-entered : s ≡ 1 → padded ≡ true → P entered) (by-settled : s ≡ 2 → padded ≡ true → P settled) (r : R) where
   same : (x : R) → _≡_ {A = Result R Malformed} (Ok x) (Ok r) → P x → P r
   same x e h = subst P (let k : x ≡ r = cc in k) h
 
   refused : (why : Malformed) → _≡_ {A = Result R Malformed} (Err why) (Ok r) → P r
   refused why e = absurd (let z : _≡_ {A = ℕ} 0 1 = cc in omega arith)
 
-  told : (over padded one two zero : Bool) → blank (drop (at + 1) bs) ≡ padded → eqb (getD bs at 0) 1 ≡ one → eqb (getD bs at 0) 2 ≡ two → blank bs ≡ zero → recordOf empty entered settled (cond over (Err (malformed.Status (getD bs at 0))) (cond padded (cond one (Ok status.Entered) (cond two (Ok status.Settled) (cond zero (Ok status.Empty) (Err malformed.Residue)))) (Err malformed.Padding))) ≡ Ok r → P r
-  told true padded one two zero p f g z e = refused _ e
-  told false false one two zero p f g z e = refused _ e
-  told false true true two zero p f g z e = same entered e (by-entered (eqb-true _ _ f) p)
-  told false true false true zero p f g z e = same settled e (by-settled (eqb-true _ _ g) p)
-  told false true false false true p f g z e = same empty e (by-empty z)
-  told false true false false false p f g z e = refused _ e
+  told : (over p one two z : Bool) → padded ≡ p → eqb s 1 ≡ one → eqb s 2 ≡ two → bare ≡ z → recordOf empty entered settled (cond over (Err (malformed.Status s)) (cond (not p) (Err malformed.Padding) (cond one (Ok status.Entered) (cond two (Ok status.Settled) (cond z (Ok status.Empty) (Err malformed.Residue)))))) ≡ Ok r → P r
+  told true p one two z h f g k e = refused _ e
+  told false false one two z h f g k e = refused _ e
+  told false true true two z h f g k e = same entered e (by-entered (eqb-true _ _ f) h)
+  told false true false true z h f g k e = same settled e (by-settled (eqb-true _ _ g) h)
+  told false true false false true h f g k e = same empty e (by-empty k)
+  told false true false false false h f g k e = refused _ e
 
-  pub read-by : recordOf empty entered settled (statusOf at bs) ≡ Ok r → P r
-  read-by e = told (ltb 2 (getD bs at 0)) (blank (drop (at + 1) bs)) (eqb (getD bs at 0) 1) (eqb (getD bs at 0) 2) (blank bs) refl refl refl refl e
+  pub read-by : recordOf empty entered settled (judged s padded bare) ≡ Ok r → P r
+  read-by e = told (ltb 2 s) padded (eqb s 1) (eqb s 2) bare refl refl refl refl e
 
 -- The record of the status that was read.
 pub read-as : {R : Type 0} (bytes : R → List ℕ) (empty entered settled : R) (at : ℕ) (bs : List ℕ) → ((r : R) → recordOf empty entered settled (statusOf at bs) ≡ Ok r → bytes r ≡ bs) → (x y : Status) → Ok x ≡ statusOf at bs → x ≡ y → (r : R) → recordOf empty entered settled (Ok y) ≡ Ok r → (Ok r ≡ recordOf empty entered settled (statusOf at bs)) × (bytes r ≡ bs)
@@ -78,6 +78,7 @@ batch-in s b f = λ i. record {
 }
 
 pub batch-back : (r : BatchRecord) → BatchRecordFits r → batchOf (batchBytes r) ≡ Ok r
+unfolding batchBytes batchOf
 batch-back batch.Empty f = refl
 batch-back (batch.Entered b) f = ap (λ x. Ok (batch.Entered x)) (batch-in 1 b f)
 batch-back (batch.Settled b) f = ap (λ x. Ok (batch.Settled x)) (batch-in 2 b f)
@@ -92,7 +93,8 @@ batch-with bs h s e z =
     (field-more bs u 12 8 _ (omega arith) (status-zeros bs 20 11 s l e z))))
 
 pub batch-only : (bs : List ℕ) → Bytes 32 bs → (r : BatchRecord) → batchOf bs ≡ Ok r → batchBytes r ≡ bs
-batch-only bs h = read-by (λ r. batchBytes r ≡ bs) batch.Empty (batch.Entered (batchIn bs)) (batch.Settled (batchIn bs)) bs 20 (empty-zeros bs h) (batch-with bs h 1) (batch-with bs h 2)
+unfolding batchBytes batchOf
+batch-only bs h = read-by (λ r. batchBytes r ≡ bs) batch.Empty (batch.Entered (batchIn bs)) (batch.Settled (batchIn bs)) (getD bs 20 0) (blank (drop 21 bs)) (blank bs) (empty-zeros bs h) (batch-with bs h 1) (batch-with bs h 2)
 
 batch-held : (bs : List ℕ) → Bytes 32 bs → BatchFits (batchIn bs)
 batch-held bs h = let l = h .long in record {
@@ -103,7 +105,8 @@ batch-held bs h = let l = h .long in record {
 }
 
 batch-fits : (bs : List ℕ) → Bytes 32 bs → (r : BatchRecord) → batchOf bs ≡ Ok r → BatchRecordFits r
-batch-fits bs h = read-by BatchRecordFits batch.Empty (batch.Entered (batchIn bs)) (batch.Settled (batchIn bs)) bs 20 (λ z. tt) (λ e z. batch-held bs h) (λ e z. batch-held bs h)
+unfolding batchOf
+batch-fits bs h = read-by BatchRecordFits batch.Empty (batch.Entered (batchIn bs)) (batch.Settled (batchIn bs)) (getD bs 20 0) (blank (drop 21 bs)) (blank bs) (λ z. tt) (λ e z. batch-held bs h) (λ e z. batch-held bs h)
 
 batch-long : (s : ℕ) (b : Batch) → s < 256 → Bytes 32 (batchWith s b)
 batch-long s b h =
@@ -113,6 +116,7 @@ batch-long s b h =
     (bytes-more 8 (b .«face_value») 12 _ (status-bytes s 11 h))))
 
 batch-sized : (r : BatchRecord) → Bytes 32 (batchBytes r)
+unfolding batchBytes
 batch-sized batch.Empty = status-bytes 0 31 (lit< tt)
 batch-sized (batch.Entered b) = batch-long 1 b (lit< tt)
 batch-sized (batch.Settled b) = batch-long 2 b (lit< tt)
@@ -125,6 +129,7 @@ fee-in : (s : ℕ) (f : Fee) → FeeFits f → feeIn (feeWith s f) ≡ f
 fee-in s f h = λ i. record { batch = number-bytes 4 (f .batch) (h .batch-fits) i; amount = number-bytes 8 (f .amount) (h .amount-fits) i }
 
 pub fee-back : (r : FeeRecord) → FeeRecordFits r → feeOf (feeBytes r) ≡ Ok r
+unfolding feeBytes feeOf
 fee-back fee.Empty h = refl
 fee-back (fee.Entered f) h = ap (λ x. Ok (fee.Entered x)) (fee-in 1 f h)
 fee-back (fee.Settled f) h = ap (λ x. Ok (fee.Settled x)) (fee-in 2 f h)
@@ -136,18 +141,21 @@ fee-with bs h s e z =
     field-more bs u 0 4 _ (omega arith) (field-more bs u 4 8 _ (omega arith) (status-zeros bs 12 19 s l e z))
 
 pub fee-only : (bs : List ℕ) → Bytes 32 bs → (r : FeeRecord) → feeOf bs ≡ Ok r → feeBytes r ≡ bs
-fee-only bs h = read-by (λ r. feeBytes r ≡ bs) fee.Empty (fee.Entered (feeIn bs)) (fee.Settled (feeIn bs)) bs 12 (empty-zeros bs h) (fee-with bs h 1) (fee-with bs h 2)
+unfolding feeBytes feeOf
+fee-only bs h = read-by (λ r. feeBytes r ≡ bs) fee.Empty (fee.Entered (feeIn bs)) (fee.Settled (feeIn bs)) (getD bs 12 0) (blank (drop 13 bs)) (blank bs) (empty-zeros bs h) (fee-with bs h 1) (fee-with bs h 2)
 
 fee-held : (bs : List ℕ) → Bytes 32 bs → FeeFits (feeIn bs)
 fee-held bs h = let l = h .long in record { batch-fits = field-small bs (h .under) 0 4 (omega arith); amount-fits = field-small bs (h .under) 4 8 (omega arith) }
 
 fee-fits : (bs : List ℕ) → Bytes 32 bs → (r : FeeRecord) → feeOf bs ≡ Ok r → FeeRecordFits r
-fee-fits bs h = read-by FeeRecordFits fee.Empty (fee.Entered (feeIn bs)) (fee.Settled (feeIn bs)) bs 12 (λ z. tt) (λ e z. fee-held bs h) (λ e z. fee-held bs h)
+unfolding feeOf
+fee-fits bs h = read-by FeeRecordFits fee.Empty (fee.Entered (feeIn bs)) (fee.Settled (feeIn bs)) (getD bs 12 0) (blank (drop 13 bs)) (blank bs) (λ z. tt) (λ e z. fee-held bs h) (λ e z. fee-held bs h)
 
 fee-long : (s : ℕ) (f : Fee) → s < 256 → Bytes 32 (feeWith s f)
 fee-long s f h = bytes-more 4 (f .batch) 28 _ (bytes-more 8 (f .amount) 20 _ (status-bytes s 19 h))
 
 fee-sized : (r : FeeRecord) → Bytes 32 (feeBytes r)
+unfolding feeBytes
 fee-sized fee.Empty = status-bytes 0 31 (lit< tt)
 fee-sized (fee.Entered f) = fee-long 1 f (lit< tt)
 fee-sized (fee.Settled f) = fee-long 2 f (lit< tt)

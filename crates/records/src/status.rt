@@ -5,9 +5,10 @@ use crate::RECORD;
 use crate::malformed::Malformed;
 use crate::read::all_zero;
 
-// The status byte of a record that is entered and of one that is settled; an empty record has 0.
+// The status byte of a record that is entered. An empty one has 0.
 pub(crate) const ENTERED: u8 = 1;
 
+// The status byte of a record that is settled, the greatest.
 pub(crate) const SETTLED: u8 = 2;
 
 // How far a record has come.

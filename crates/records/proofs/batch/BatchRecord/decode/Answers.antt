@@ -1,6 +1,7 @@
 use mathlib.Core.Path.{_≡_, refl, sym, ap}
 use mathlib.Core.List.{List}
 use Prim.Native.Nat.{ℕ}
+use borrow.Author.Needs.{needs}
 use Rattle.std.specs.declared.result.Result.the-variants.{Ok}
 use Rattle.records.specs.declared.batch.BatchRecord.{BatchRecord}
 use Rattle.records.specs.declared.batch.BatchRecord.the-variants.{Empty, Entered, Settled}
@@ -12,7 +13,12 @@ use Rattle.records.proofs.Trips.{bytes-from, read-as, batch-only}
 use Rattle.records.proofs.batch.BatchRecord.decode.Needs as need
 
 read : (bs : List ℕ) → Bytes 32 bs → (x y : Status) → Ok x ≡ statusOf 20 bs → x ≡ y → (r : BatchRecord) → recordOf Empty (Entered (batchIn bs)) (Settled (batchIn bs)) (Ok y) ≡ Ok r → (Ok r ≡ batchOf bs) × (batchBytes r ≡ bs)
+unfolding batchOf
 read bs h = read-as batchBytes Empty (Entered (batchIn bs)) (Settled (batchIn bs)) 20 bs (batch-only bs h)
+
+pub returns-in-Break-status-at : need.returns-in-Break-status-at
+unfolding batchOf
+returns-in-Break-status-at c = search needs
 
 pub returns-in-Empty : need.returns-in-Empty
 returns-in-Empty c =

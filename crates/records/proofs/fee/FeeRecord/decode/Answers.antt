@@ -1,6 +1,7 @@
 use mathlib.Core.Path.{_≡_, refl, sym, ap}
 use mathlib.Core.List.{List}
 use Prim.Native.Nat.{ℕ}
+use borrow.Author.Needs.{needs}
 use Rattle.std.specs.declared.result.Result.the-variants.{Ok}
 use Rattle.records.specs.declared.fee.FeeRecord.{FeeRecord}
 use Rattle.records.specs.declared.fee.FeeRecord.the-variants.{Empty, Entered, Settled}
@@ -12,7 +13,12 @@ use Rattle.records.proofs.Trips.{bytes-from, read-as, fee-only}
 use Rattle.records.proofs.fee.FeeRecord.decode.Needs as need
 
 read : (bs : List ℕ) → Bytes 32 bs → (x y : Status) → Ok x ≡ statusOf 12 bs → x ≡ y → (r : FeeRecord) → recordOf Empty (Entered (feeIn bs)) (Settled (feeIn bs)) (Ok y) ≡ Ok r → (Ok r ≡ feeOf bs) × (feeBytes r ≡ bs)
+unfolding feeOf
 read bs h = read-as feeBytes Empty (Entered (feeIn bs)) (Settled (feeIn bs)) 12 bs (fee-only bs h)
+
+pub returns-in-Break-status-at : need.returns-in-Break-status-at
+unfolding feeOf
+returns-in-Break-status-at c = search needs
 
 pub returns-in-Empty : need.returns-in-Empty
 returns-in-Empty c =
