@@ -9,3 +9,5 @@ pub use mark::Defect;
 pub use mark::DefectDebug;
 pub use mark::DefectPartialEq;
 pub use mark::Mark;
+pub use mark::MarkDebug;
+pub use mark::MarkPartialEq;

@@ -4,7 +4,7 @@ ghost use lib.ListN.{length};
 ghost use Rattle.ends.specs.Bytes.{pagesIn, pageOf};
 
 // How many whole pages a length of bytes has.
-pub(crate) fn whole_pages(length: usize) -> u32
+pub fn whole_pages(length: usize) -> u32
     ensures { λ r. ⌜ r ≡ pagesIn length ⌝ }
 {
     (length / 512).min(4294967295) as u32

@@ -5,5 +5,6 @@ mod memory;
 
 pub use archive::Archive;
 pub use archive::ArchiveDevice;
+pub use bytes::whole_pages;
 pub use memory::Memory;
 pub use memory::MemoryDevice;

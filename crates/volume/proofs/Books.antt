@@ -46,7 +46,8 @@ put-together batch fees archive marks v b f a m = record {
   row = λ k i.
       joinRow (joinSize (pagesIn (length (b i))) (pagesIn (length (f i))))
       (joinRow (pagesIn (length (b i))) (markedRow (λ j. m j i) (memoryRow (b i))) (memoryRow (f i)))
-      (archiveRow (a i)) k }
+      (archiveRow (a i)) k;
+}
 
 refused-past : (n : ℕ) (ms : Marks) (page : ℕ) (e : Refusal) → Err e ≡ markAnswer n ms page → n ≤ page → e ≡ NoSuchPage
 refused-past n ms page e h l = let p = h ∙ cond-false (ltb page n) _ _ (le-ltb page n l) in cc
@@ -63,7 +64,8 @@ pub unopened : (batch : List ℕ) (marks : List Mark) (e : MarkRefused) (s s′ 
 unopened batch marks e s s′ b h = record {
   within = h .within;
   past = λ m at l. refused-past (pagesIn (length batch)) (s′ .marks) (m .page) (e .refusal) (h .why m at ∙ ap (λ (x : List ℕ). markAnswer (pagesIn (length x)) (s′ .marks) (m .page)) b) l;
-  full = λ m at l. refused-full (pagesIn (length batch)) (s′ .marks) (m .page) (e .refusal) (h .why m at ∙ ap (λ (x : List ℕ). markAnswer (pagesIn (length x)) (s′ .marks) (m .page)) b) l }
+  full = λ m at l. refused-full (pagesIn (length batch)) (s′ .marks) (m .page) (e .refusal) (h .why m at ∙ ap (λ (x : List ℕ). markAnswer (pagesIn (length x)) (s′ .marks) (m .page)) b) l;
+}
 
 -- the exit of a `?`
 pub exit-cases : {A : Type 0} (P : A → Type 0) (Q : MarkRefused → Type 0) (r : Result A MarkRefused) (e : MarkRefused) → ErrBy r (λ y. y ≡ e) → Q e → Cases r P Q
