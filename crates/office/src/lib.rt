@@ -2,6 +2,8 @@
 mod defect_line;
 mod number;
 mod take;
+#[cfg(test)]
+mod tests;
 
 pub use defect_line::DefectLine;
 pub use defect_line::read_defect_line;

@@ -1,6 +1,6 @@
 use mathlib.Core.Path.{_≡_}
 use mathlib.Core.List.{List}
-use Prim.Native.Nat.{ℕ, zero, suc}
+use Prim.Native.Nat.{ℕ, zero, suc, _-_}
 use lib.ListN.{length}
 use Rattle.std.specs.declared.option.Option.the-variants.{Some, None}
 use Rattle.std.specs.declared.result.Result.the-variants.{Ok, Err}
@@ -23,8 +23,8 @@ raisedBy (suc n) o = raised (raisedBy n o)
 abbrev pub at : ℕ → ℕ → Origin
 at page depth = record { page = page; depth = depth }
 
--- Worked cases of the definitions.
-pub record Figures : Type 0 where
+-- Worked cases of the definitions, `most` being the largest number of pages that a device may have.
+pub record Figures (most : ℕ) : Type 0 where
   -- a memory of 1,023 bytes has one page, and page 1 gets refusal 2
   pub odd-memory : (bs : List ℕ) → length bs ≡ 1023 → (pagesIn (length bs) ≡ 1) × (readAt (memoryRow bs 1) ≡ Err NoSuchPage) × (writeAt (memoryRow bs 1) ≡ Err NoSuchPage)
   pub no-such-page : numberOf NoSuchPage ≡ 2
@@ -45,9 +45,9 @@ pub record Figures : Type 0 where
   pub depth-255 : raisedBy 255 (at 7 0) ≡ at 7 255
   pub depth-256 : raisedBy 256 (at 7 0) ≡ at 7 255
   -- a join that would pass the limit, at its last page and after it
-  pub join-size : joinSize 4294967294 9 ≡ 4294967295
-  pub join-last : (r t : Row) → joinRow 4294967294 r t 4294967294 ≡ upAt (t 0)
-  pub join-after : (r t : Row) → readAt (joinRow 4294967294 r t 4294967295) ≡ Err NoSuchPage
+  pub join-size : joinSize (most - 1) 9 ≡ most
+  pub join-last : (r t : Row) → joinRow (most - 1) r t (most - 1) ≡ upAt (t 0)
+  pub join-after : (r t : Row) → readAt (joinRow (most - 1) r t most) ≡ Err NoSuchPage
   -- a window past the end, and one that begins at the end
   pub window-past : windowSize 4 5 3 ≡ 0
   pub window-at-end : windowSize 3 5 3 ≡ 0

@@ -4,5 +4,5 @@ mod figures;
 mod tests;
 mod work;
 
-pub use figures::figures_hold;
+pub use figures::most_pages;
 pub use work::work_pile;

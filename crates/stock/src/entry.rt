@@ -8,7 +8,7 @@ use records::FeeRecord;
 
 // What a record says to a stock-taker.
 #[derive(Clone, Copy, PartialEq, Eq, Debug)]
-pub enum Entry {
+pub(crate) enum Entry {
     Empty,
     InUse(u64),
     Malformed,
@@ -16,7 +16,7 @@ pub enum Entry {
 
 impl Entry {
     // The entry that the bytes of a record of the book are. The archive has batch records.
-    pub fn of(book: Book, bytes: &[u8; 32]) -> Entry
+    pub(crate) fn of(book: Book, bytes: &[u8; 32]) -> Entry
         ensures { λ r. ⌜ r ≡ entryOf book (now (bytes .entry)) ⌝ }
     {
         match book {
@@ -48,7 +48,7 @@ impl Entry {
         }
     }
 
-    pub fn used(self) -> u32
+    pub(crate) fn used(self) -> u32
         ensures value { λ r. ⌜ r ≡ usedOf self ⌝ }
         ensures bound { λ r. ⌜ r ≤ 1 ⌝ }
     {
@@ -58,7 +58,7 @@ impl Entry {
         }
     }
 
-    pub fn malformed(self) -> u32
+    pub(crate) fn malformed(self) -> u32
         ensures value { λ r. ⌜ r ≡ malformedOf self ⌝ }
         ensures bound { λ r. ⌜ r ≤ 1 ⌝ }
     {
@@ -68,7 +68,7 @@ impl Entry {
         }
     }
 
-    pub fn amount(self) -> u64
+    pub(crate) fn amount(self) -> u64
         ensures { λ r. ⌜ r ≡ amountOf self ⌝ }
     {
         match self {

@@ -10,7 +10,6 @@ pub use book::Book;
 pub use book::BookDebug;
 pub use book::BookPartialEq;
 pub use book::Layout;
-pub use entry::Entry;
 pub use line::Line;
 pub use line::look;
 pub use sums::Measure;
