@@ -83,7 +83,11 @@ pub impl<'a> Device for Memory<'a> as MemoryDevice {
         Ok(State::Sound)
     }
 
-    fn read(&mut self, page: u32, buffer: &mut [u8; 512]) -> Result<(), Refusal> {
+    fn read(&mut self, page: u32, buffer: &mut [u8; 512]) -> Result<(), Refusal>
+        ensures did { λ r. ⌜ (Unit {0} → DidRead (pagesIn (length (now (now (self .entry) .bytes)))) (memoryRow (now (now (self .entry) .bytes))) page (now (buffer .entry)) r (Unit {0}) (pagesIn (length (now (now (self .exit) .bytes)))) (memoryRow (now (now (self .exit) .bytes))) (now (buffer .exit))) ⌝ }
+        ensures bytes { λ _. ⌜ now (now (self .exit) .bytes) ≡ now (now (self .entry) .bytes) ⌝ }
+        ensures named { λ _. ⌜ name (now (self .exit) .bytes) ≡ name (now (self .entry) .bytes) ⌝ }
+    {
         if page >= whole_pages(self.bytes.len()) {
             return Err(Refusal::NoSuchPage);
         }

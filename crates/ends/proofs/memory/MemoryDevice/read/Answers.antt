@@ -1,5 +1,5 @@
 use borrow.Author.Needs.{needs}
-use mathlib.Core.Path.{_≡_, refl, sym, ap, _∙_}
+use mathlib.Core.Path.{_≡_, sym, ap, _∙_}
 use native.Mathlib.Omega.{arith}
 use Prim.Native.Nat.{_<_}
 use lib.ListN.{length}
@@ -9,15 +9,19 @@ use Rattle.ends.specs.Shapes.{memory-there}
 use Rattle.ends.proofs.memory.MemoryDevice.read.Needs as need
 
 pub returns : need.returns
-returns c v =
+returns c =
     let bs = c .args .self .now .bytes .now in
     let page = c .args .page in
     let h : page < pagesIn (length bs) = omega arith in
-    let e = memory-there bs page h in
+    let there = memory-there bs page h in
     record {
-      valid = tt;
-      size = search needs;
-      row = search needs;
-      answer = ap readAt (sym e);
-      buffer = c .copy-out .ensures ∙ ap (λ o. filledAt o (c .args .buffer .now)) (sym e);
+      did = λ v. record {
+        valid = tt;
+        size = search needs;
+        row = search needs;
+        answer = ap readAt (sym there);
+        buffer = c .copy-out .ensures ∙ ap (λ o. filledAt o (c .args .buffer .now)) (sym there);
+      };
+      bytes = search needs;
+      named = search needs;
     }
