@@ -9,7 +9,7 @@ use std::fs;
 
 // What the files hold: the bytes of the books, and the marks with the lines they stand on.
 #[derive(Drop)]
-pub struct Books {
+pub(crate) struct Books {
     pub batch: Vec<u8>,
     pub fees: Vec<u8>,
     pub archive: Vec<u8>,
@@ -20,7 +20,7 @@ pub struct Books {
 
 impl Books {
     // The problem that a fault is, with the line of the defect file that it comes from.
-    pub fn blame(self, fault: StockFault) -> Problem {
+    pub(crate) fn blame(self, fault: StockFault) -> Problem {
         match fault {
             StockFault::Memory => Problem::Memory,
             StockFault::Mark(refused) => {
@@ -53,7 +53,7 @@ fn read_text(rt: &LibcRuntime, name: &String) -> Result<String, Problem> {
 }
 
 // Reads the three books and the defect file.
-pub fn read_books(rt: &LibcRuntime, names: &[String]) -> Result<Books, Problem> {
+pub(crate) fn read_books(rt: &LibcRuntime, names: &[String]) -> Result<Books, Problem> {
     let [batch, fees, archive, defects] = names else {
         return Err(Problem::Usage);
     };

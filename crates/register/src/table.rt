@@ -73,7 +73,7 @@ fn print_totals(rt: &LibcRuntime, lines: &[Line], book: Book) -> io::Result<()> 
 }
 
 // The stock as a table: a line for each page, the totals of each book, and the refusals met.
-pub fn print_table(rt: &LibcRuntime, lines: &[Line]) -> io::Result<()> {
+pub(crate) fn print_table(rt: &LibcRuntime, lines: &[Line]) -> io::Result<()> {
     let pages = lines.len();
     println!(rt, "Stock of the volume: {pages} pages")?;
     println!(rt, "")?;
