@@ -1,0 +1,4 @@
+pub mod Frames
+pub mod Held
+pub mod Runs
+pub mod Sets
