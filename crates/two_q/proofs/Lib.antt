@@ -1,0 +1,9 @@
+pub mod Accesses
+pub mod Counts
+pub mod Laws
+pub mod Models
+pub mod Pages
+pub mod Reclaims
+pub mod Sounds
+pub mod Strings
+pub mod Tails
