@@ -1,0 +1,4 @@
+pub mod Places
+pub mod Counts
+pub mod Order
+pub mod Scans

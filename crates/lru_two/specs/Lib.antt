@@ -1,0 +1,6 @@
+pub mod AsPrinted
+pub mod Choice
+pub mod Figures
+pub mod Model
+pub mod Of
+pub mod Printed
