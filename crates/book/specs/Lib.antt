@@ -1,0 +1,10 @@
+pub mod Book
+pub mod Bytes
+pub mod Call
+pub mod ClockLaws
+pub mod Counts
+pub mod Figures
+pub mod GrantLaws
+pub mod Life
+pub mod PageLaws
+pub mod Proper
