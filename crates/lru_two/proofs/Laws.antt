@@ -1,8 +1,8 @@
 -- What the calls leave of the set of resident pages and its size.
-use mathlib.Core.Path.{_≡_, refl, sym, ap, subst, _∙_}
+use mathlib.Core.Path.{_≡_, refl, ap, _∙_}
 use mathlib.Core.Bool.{Bool, true, false, cond}
-use mathlib.Core.List.{List, [], _∷_}
-use Prim.Native.Nat.{ℕ, _+_, _<_, _≤_}
+use mathlib.Core.List.{List}
+use Prim.Native.Nat.{ℕ, _+_}
 use native.Mathlib.Omega.{arith}
 use lib.Dec.{eqb}
 use lib.ListN.{length}
@@ -13,8 +13,8 @@ use Rattle.std.proofs.shelf.Tests.{false≢true}
 use Rattle.std.proofs.shelf.Ways.{tells}
 use Rattle.policy.specs.Sets.{member, distinct, entered, grown}
 use Rattle.blocks.specs.declared.block.Block.{Block}
-use Rattle.blocks.specs.Blocks.{pages, found, earlier, less, refreshed}
-use Rattle.lru_two.specs.Model.{Model, resident, size, touched, forgotten, dropped, gone, come, admitted}
+use Rattle.blocks.specs.Blocks.{pages, found, less, refreshed}
+use Rattle.lru_two.specs.Model.{Model, resident, size, touched, forgotten, dropped, gone, admitted}
 use Rattle.blocks.proofs.Places.{has-block}
 use Rattle.blocks.proofs.Counts.{length-less, length-renewed, pages-renewed, same-page, member-less, out-once}
 

@@ -2,19 +2,18 @@
 use mathlib.Core.Path.{_≡_, refl, sym, ap, subst, _∙_}
 use mathlib.Core.Bool.{Bool, true, false, cond}
 use mathlib.Core.List.{List, [], _∷_, map}
-use Prim.Native.Nat.{ℕ, _+_, _≤_}
+use Prim.Native.Nat.{ℕ}
 use native.Mathlib.Omega.{arith}
 use lib.Dec.{eqb}
-use lib.ListN.{length}
 use Rattle.std.specs.declared.option.Option.{Option}
-use Rattle.std.specs.declared.option.Option.the-variants.{Some, None}
+use Rattle.std.specs.declared.option.Option.the-variants.{Some}
 use Rattle.std.proofs.shelf.Tests.{false≢true, eqb-true}
 use Rattle.std.proofs.shelf.Ways.{tells}
 use Rattle.policy.specs.Sets.{member, distinct}
 use Rattle.blocks.specs.declared.block.Block.{Block}
-use Rattle.blocks.specs.Blocks.{pages, found, earlier, less, renewed, refreshed, outside}
+use Rattle.blocks.specs.Blocks.{pages, found, earlier, less, renewed, refreshed}
 use Rattle.lru_two.specs.AsPrinted.{blockOf}
-use Rattle.lru_two.specs.Printed.{State, uncorrelated, restarted, updated, fetched, without}
+use Rattle.lru_two.specs.Printed.{State, uncorrelated, updated, fetched, without}
 use Rattle.blocks.proofs.Counts.{by-bool}
 
 pub pages-of : (s : State) (xs : List ℕ) → pages (map (blockOf s) xs) ≡ xs

@@ -6,13 +6,13 @@ use Prim.Native.Nat.{ℕ, _+_, _≤_}
 use native.Mathlib.Omega.{arith}
 use lib.ListN.{length, take}
 use Rattle.std.proofs.shelf.Lists.{append-nil, length-push}
-use Rattle.policy.specs.Runs.{Turn, turn, Course, start, onward, refer, run, hitBy, hits, fetches, leftBy, left, reach, DidRun, Standing}
+use Rattle.policy.specs.Runs.{turn, Course, start, refer, run, hitBy, hits, fetches, leftBy, left, reach, DidRun, Standing}
 use Rattle.policy.specs.declared.outcome.Outcome.{Outcome}
 use Rattle.policy.specs.declared.outcome.Outcome.the-variants.{Hit, Fetch}
 use Rattle.lru_two.specs.AsPrinted.{ofState, AsPrinted}
 use Rattle.lru_two.specs.Model.{Model, empty}
 use Rattle.lru_two.specs.Of.{lruTwo}
-use Rattle.lru_two.specs.Printed.{State, nothing, Referred, reference, listed, Run, tallied, runFrom, printedRun}
+use Rattle.lru_two.specs.Printed.{nothing, Referred, reference, Run, tallied, runFrom, printedRun}
 use Rattle.lru_two.proofs.References.{outcomeOf, Did, refers}
 use Rattle.lru_two.proofs.Sounds.{Sound, nothing-sound}
 

@@ -1,5 +1,5 @@
 -- The scan over the blocks of a printed state is the printed scan.
-use mathlib.Core.Path.{_≡_, refl, sym, ap, subst, _∙_}
+use mathlib.Core.Path.{_≡_, refl, sym, ap, _∙_}
 use mathlib.Core.Bool.{Bool, true, false, cond}
 use mathlib.Core.List.{List, [], _∷_, map}
 use Prim.Native.Nat.{ℕ, _<_}
@@ -12,8 +12,8 @@ use Rattle.std.proofs.shelf.Tests.{eq-eqb, lt-ltb}
 use Rattle.std.proofs.shelf.Ways.{tells}
 use Rattle.policy.specs.Sets.{member}
 use Rattle.blocks.specs.declared.block.Block.{Block}
-use Rattle.blocks.specs.Blocks.{before, candidate, allowed, lesser, scanned}
-use Rattle.lru_two.specs.Model.{Model, orElse, chosen}
+use Rattle.blocks.specs.Blocks.{before, candidate, lesser, scanned}
+use Rattle.lru_two.specs.Model.{orElse, chosen}
 use Rattle.lru_two.specs.AsPrinted.{blockOf, ofState}
 use Rattle.lru_two.specs.Printed as printed
 use Rattle.lru_two.specs.Printed.{State, uncorrelated, tie, scan, either, victim}

@@ -7,7 +7,7 @@ use Rattle.policy.specs.Runs.{left, reach}
 use Rattle.policy.specs.declared.outcome.Outcome.{Outcome}
 use Rattle.blocks.specs.declared.block.Block.{Block}
 use Rattle.lru_two.specs.Model.{Model}
-use Rattle.lru_two.specs.Printed.{State, Run, printedRun}
+use Rattle.lru_two.specs.Printed.{State, printedRun}
 
 -- The history block of a page, and the model whose blocks are those of the printed state.
 abbrev pub blockOf : State → ℕ → Block

@@ -1,6 +1,6 @@
 -- What LRU-2 remembers: the blocks of the resident pages, the blocks of pages that left, from the
 -- one that left last, the frame count and the correlated reference period.
-use mathlib.Core.Bool.{Bool, true, false, cond}
+use mathlib.Core.Bool.{Bool}
 use mathlib.Core.List.{List, [], _∷_}
 use Prim.Native.Nat.{ℕ, _/_}
 use lib.ListN.{length, take}

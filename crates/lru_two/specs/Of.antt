@@ -1,9 +1,7 @@
 -- What the policy LRU-2 means.
-use mathlib.Core.Path.{_≡_, refl}
-use mathlib.Core.List.{List, []}
-use Prim.Native.Nat.{ℕ, _≤_}
+use mathlib.Core.Path.{refl}
 use native.Mathlib.Omega.{arith}
-use lib.ListN.{length, take, length-take, length-map}
+use lib.ListN.{take, length-take, length-map}
 use Rattle.policy.specs.Sets.{Kept}
 use Rattle.policy.specs.declared.policy.Policy as policy
 use Rattle.blocks.specs.declared.block.Block.{Block}

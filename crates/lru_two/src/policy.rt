@@ -70,9 +70,9 @@ pub impl Policy for LruTwo as LruTwoPolicy {
                 if !self.has(gone) {
                     return false;
                 }
-                let hist2 = self.forget(page);
+                let earlier = self.forget(page);
                 self.let_out(gone);
-                self.let_in(page, hist2, t);
+                self.let_in(page, earlier, t);
             }
             None => {
                 if self.is_full() {

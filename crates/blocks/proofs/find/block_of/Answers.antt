@@ -1,6 +1,4 @@
-use mathlib.Core.Path.{_≡_, sym, ap, _∙_}
-use lib.ListN.{getD}
-use Rattle.blocks.specs.declared.block.Block.{Block}
+use mathlib.Core.Path.{sym, _∙_}
 use Rattle.blocks.proofs.Places.{at, unplaced}
 use Rattle.blocks.proofs.find.block_of.Needs as need
 

@@ -1,4 +1,4 @@
-use mathlib.Core.Path.{_≡_, sym, ap, _∙_}
+use mathlib.Core.Path.{sym, ap, _∙_}
 use Rattle.blocks.proofs.Places.{hist1Of, earlier-is}
 use Rattle.blocks.proofs.find.hist1_of.Needs as need
 

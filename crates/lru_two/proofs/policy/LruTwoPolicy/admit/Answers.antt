@@ -15,9 +15,9 @@ use Rattle.lru_two.proofs.policy.LruTwoPolicy.admit.Needs as need
 
 pub let-in-requires : need.let-in-requires
 let-in-requires c κs =
-    let s = c .forget-hist2 .last .self in
+    let s = c .forget-earlier .last .self in
     let t = c .let-out .last .self in
-    let f = c .forget-hist2 .ensures .after in
+    let f = c .forget-earlier .ensures .after in
     let o = c .let-out .ensures in
     let out = c .in-Some .gone in
     let here : resident (model s) out ≡ true = ap (λ (m : Model). resident m out) f ∙ sym (c .has-in-Some .ensures) ∙ c .if-not-has .left in
@@ -33,7 +33,7 @@ let-in-requires c κs =
 pub let-in-requires-in-None : need.let-in-requires-in-None
 let-in-requires-in-None c κs =
     let s = c .args .self .now in
-    let f = c .forget-hist2-in-None .ensures .after in
+    let f = c .forget-hist2 .ensures .after in
     let fits : size (model s) < s .frames .value = leb-false _ _ (sym (c .is-full .ensures) ∙ c .if-is-full .left) in
     record {
       room = subst (λ (m : Model). size m < m .bound) (sym f) fits;
@@ -67,7 +67,7 @@ returns-else-not-has c =
     let here : resident m out ≡ true = sym (c .has-in-Some .ensures) ∙ c .if-not-has .left in
     let away : resident m p ≡ false = sym (c .has .ensures) ∙ c .if-has .left in
     let after : model (c .let-in .last .self) ≡ admitted m p (Some out) t =
-    c .let-in .ensures ∙ ap (λ (n : Model). come n (c .forget-hist2 .result) p t) (c .let-out .ensures ∙ ap (λ (n : Model). gone n (Some out)) (c .forget-hist2 .ensures .after)) ∙ ap (λ (h : ℕ). come (gone (forgotten m p) (Some out)) h p t) (c .forget-hist2 .ensures .answer) in
+    c .let-in .ensures ∙ ap (λ (n : Model). come n (c .forget-earlier .result) p t) (c .let-out .ensures ∙ ap (λ (n : Model). gone n (Some out)) (c .forget-earlier .ensures .after)) ∙ ap (λ (h : ℕ). come (gone (forgotten m p) (Some out)) h p t) (c .forget-earlier .ensures .answer) in
     record {
       answer = sym (ap (λ (l : Option ℕ). accepts (resident m) (size m) (s .frames .value) p l) is ∙ ap (λ (b : Bool). cond b false (resident m out)) away ∙ here);
       step = λ _. after ∙ ap (λ (l : Option ℕ). admitted m p l t) (sym is);
@@ -87,7 +87,7 @@ returns-else-is-full c =
     let away : resident m p ≡ false = sym (c .has .ensures) ∙ c .if-has .left in
     let fits : size m < s .frames .value = leb-false _ _ (sym (c .is-full .ensures) ∙ c .if-is-full .left) in
     let after : model (c .let-in-in-None .last .self) ≡ admitted m p None t =
-    c .let-in-in-None .ensures ∙ ap (λ (n : Model). come n (c .forget-hist2-in-None .result) p t) (c .forget-hist2-in-None .ensures .after) ∙ ap (λ (h : ℕ). come (forgotten m p) h p t) (c .forget-hist2-in-None .ensures .answer) in
+    c .let-in-in-None .ensures ∙ ap (λ (n : Model). come n (c .forget-hist2 .result) p t) (c .forget-hist2 .ensures .after) ∙ ap (λ (h : ℕ). come (forgotten m p) h p t) (c .forget-hist2 .ensures .answer) in
     record {
       answer = sym (ap (λ (l : Option ℕ). accepts (resident m) (size m) (s .frames .value) p l) is ∙ ap (λ (b : Bool). cond b false (ltb (size m) (s .frames .value))) away ∙ lt-ltb (size m) (s .frames .value) fits);
       step = λ _. after ∙ ap (λ (l : Option ℕ). admitted m p l t) (sym is);

@@ -1,4 +1,4 @@
-use mathlib.Core.Path.{_≡_, sym, ap, _∙_}
+use mathlib.Core.Path.{sym, ap, _∙_}
 use mathlib.Core.Bool.{true}
 use Rattle.std.proofs.shelf.Tests.{false≢true}
 use Rattle.lru_two.specs.Model.{Model, resident, size}
