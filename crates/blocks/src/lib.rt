@@ -1,4 +1,6 @@
 // History blocks of pages, and the scan for the page that is to leave.
+#![tactic(auto)]
+
 mod block;
 mod find;
 mod scan;

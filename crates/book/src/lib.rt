@@ -1,5 +1,7 @@
 // The page book: what every call of a pool is answered, whatever its frames and its policy are, with
 // the laws of the book and what is promised of a whole life of calls.
+#![tactic(auto)]
+
 mod figures;
 mod grant;
 mod life;

@@ -1,4 +1,6 @@
 // The defect list: a layer that marks pages of the device it holds worn or lost.
+#![tactic(auto)]
+
 mod list;
 mod mark;
 mod marks;

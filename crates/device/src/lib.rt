@@ -1,4 +1,6 @@
 // Devices: what every part of a volume is, whatever it stands on.
+#![tactic(auto)]
+
 mod both;
 mod device;
 

@@ -1,4 +1,6 @@
 // The two ends of a volume: devices that stand on bytes and on no other device.
+#![tactic(auto)]
+
 mod archive;
 mod bytes;
 mod memory;

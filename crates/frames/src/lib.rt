@@ -1,4 +1,6 @@
 // The frames of a pool: which page stands in each, with its grants and its bytes.
+#![tactic(auto)]
+
 mod frames;
 mod moves;
 mod pins;

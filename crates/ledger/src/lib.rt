@@ -1,4 +1,6 @@
 // The records of the books, worked through a pool: a batch and its fee are settled together.
+#![tactic(auto)]
+
 mod fault;
 mod finding;
 mod numbered;

@@ -1,4 +1,6 @@
 // LRU-2, the replacement policy of O'Neil, O'Neil and Weikum (1993), with K = 2.
+#![tactic(auto)]
+
 mod figures;
 mod look;
 mod lru_two;

@@ -1,4 +1,6 @@
 // What the register does on values: the lines of a defect file, and the stock of the shipped volume.
+#![tactic(auto)]
+
 mod defect_line;
 mod number;
 mod take;

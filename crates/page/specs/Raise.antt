@@ -1,4 +1,4 @@
-use Rattle.std.specs.Prelude.{ℕ, ◌+◌, min, Ok, Err, Result}
+use Rattle.std.specs.Prelude.{◌+◌, min, Ok, Err, Result}
 use Rattle.page.specs.declared.origin.Origin.{Origin}
 use Rattle.page.specs.declared.state.State.{State}
 use Rattle.page.specs.declared.state.State.TheVariants.{Sound, Worn, Lost}

@@ -1,4 +1,6 @@
 // Pages, their states, and the refusals of the whole product.
+#![tactic(auto)]
+
 mod origin;
 mod refusal;
 mod show;

@@ -1,4 +1,6 @@
 // Piles of parts: what whoever works through several layers learns, and worked cases.
+#![tactic(auto)]
+
 mod figures;
 #[cfg(test)]
 mod tests;

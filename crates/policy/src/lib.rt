@@ -1,4 +1,6 @@
 // Replacement policies: which page leaves when a frame is needed.
+#![tactic(auto)]
+
 mod frames;
 mod held;
 mod outcome;

@@ -1,5 +1,7 @@
 // The buffer pool: fix, read, write, unfix, flush, flush-all, close and report, over any device and
 // under any policy.
+#![tactic(auto)]
+
 mod fetch;
 mod fix;
 mod flush;

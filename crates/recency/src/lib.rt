@@ -1,4 +1,6 @@
 // Recency lists: records in the order of their last use, over a slice that the caller lends.
+#![tactic(auto)]
+
 mod keyed;
 mod list;
 #[cfg(test)]

@@ -1,4 +1,6 @@
 // The layout of a record of the batch book and of the fee book: 32 bytes, 16 records to a page of 512.
+#![tactic(auto)]
+
 ghost use Rattle.records.specs.Laws.{RoundTrips};
 
 mod batch;

@@ -1,4 +1,6 @@
 // Takes stock of an office's volume: the batch book, the fee book and last year's archive.
+#![tactic(auto)]
+
 mod input;
 mod problem;
 mod table;

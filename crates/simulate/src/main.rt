@@ -1,5 +1,7 @@
 // Runs the two proved replacement policies beside plain simulators, which were written from the rules
 // alone, and compares every victim and all that is remembered after every reference.
+#![tactic(auto)]
+
 mod drive;
 mod histories;
 mod listing;

@@ -1,4 +1,6 @@
 // Taking stock of a volume: what stands on each of its pages, and the sums of it.
+#![tactic(auto)]
+
 mod book;
 mod entry;
 mod line;

@@ -1,4 +1,6 @@
 // Full 2Q, the replacement policy of Johnson and Shasha (1994).
+#![tactic(auto)]
+
 mod figures;
 mod lists;
 mod policy;

@@ -1,4 +1,6 @@
 // The shipped volume: the place where its parts are put together.
+#![tactic(auto)]
+
 mod assemble;
 mod marking;
 

@@ -1,5 +1,7 @@
 // The register of an office: its batch book, its fee book and last year's archive as one volume, which
 // it reads and writes through one pool.
+#![tactic(auto)]
+
 mod day;
 mod input;
 mod problem;
