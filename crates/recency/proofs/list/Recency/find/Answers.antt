@@ -11,8 +11,8 @@ returns g c =
     let n = c.len-len.result in
     let whole : n - 0 ≡ n = omega arith in
     let e : take (n - 0) xs ≡ live c.args.self.now = ap (λ m. take m xs) whole ∙ c.len-len.ensures.front in
-    let r = c.place-of.result in
-    let said = c.place-of.ensures in
+    let r = c.place_of.result in
+    let said = c.place_of.ensures in
     record {
       value = said.value ∙ ap (λ t. place_of p (map f t)) e;
       nearest = subst (λ t. Nearest p (map f t) r) e said.nearest;

@@ -15,4 +15,4 @@ returns g c =
     let xs = c.args.self.now.records.now in
     let n = c.len-len.result in
     let all : n - 0 ≡ n = omega arith in
-    c.copied.ensures ∙ read (take (n - 0) xs) place c.get.result c.get.ensures.finds ∙ ap (λ m. slice_get (take m xs) place) all ∙ ap (λ t. slice_get t place) c.len-len.ensures.front
+    c.copied.ensures ∙ read (take (n - 0) xs) place c.get.result c.get.ensures.lookup ∙ ap (λ m. slice_get (take m xs) place) all ∙ ap (λ t. slice_get t place) c.len-len.ensures.front

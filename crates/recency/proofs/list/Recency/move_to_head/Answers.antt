@@ -15,11 +15,11 @@ returns g c =
     let n = length-take s.len xs in
     record {
       did = record {
-        list = move_shift xs _ c.rotate-right.new.self s.len (i + 1 - 0) i (omega arith) (omega arith) (omega arith) refl c.rotate-right.ensures.after;
+        list = move_shift xs _ c.rotate_right.new.self s.len (i + 1 - 0) i (omega arith) (omega arith) (omega arith) refl c.rotate_right.ensures.after;
         len = refl;
         done = λ h. refl;
         refused = λ h. absurd (omega arith);
-        places = let e = c.rotate-right.ensures.len in search (rules, places);
+        places = let e = c.rotate_right.ensures.len in search (rules, places);
       };
       same = refl;
     }

@@ -9,9 +9,9 @@ returns g c =
     let n = c.len-len.result in
     record {
       did = record {
-        done = λ h. (refl, put_shift xs _ c.rotate-right.new.self n (n + 1 - 0) c.args.record c.if-len-self.false (omega arith) refl c.rotate-right.ensures.after c.len-len.ensures.front);
+        done = λ h. (refl, put_shift xs _ c.rotate_right.new.self n (n + 1 - 0) c.args.record c.if-len-self.false (omega arith) refl c.rotate_right.ensures.after c.len-len.ensures.front);
         refused = λ h. absurd (omega arith);
-        places = let e = c.rotate-right.ensures.len in search (rules, places);
+        places = let e = c.rotate_right.ensures.len in search (rules, places);
       };
       same = refl;
     }

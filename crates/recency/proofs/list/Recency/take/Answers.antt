@@ -20,10 +20,10 @@ returns g c =
     record {
       did = record {
         answer = sym (ap (λ o. ok_or o PastLength) (nth_front xs s.len i c.index-self-place.result (omega arith) (omega arith)));
-        list = take_shift xs _ c.rotate-left.new.self c.len-len.result i c.if-place-len.false c.len-len.ensures.within refl c.rotate-left.ensures.after ∙ ap (λ t. without t i) c.len-len.ensures.front;
+        list = take_shift xs _ c.rotate_left.new.self c.len-len.result i c.if-place-len.false c.len-len.ensures.within refl c.rotate_left.ensures.after ∙ ap (λ t. without t i) c.len-len.ensures.front;
         done = λ h. refl;
         refused = λ h. absurd (omega arith);
-        places = let e = c.rotate-left.ensures.len in search (rules, places);
+        places = let e = c.rotate_left.ensures.len in search (rules, places);
       };
       same = refl;
     }
