@@ -51,7 +51,7 @@ fn the_others_keep_their_order(rt: HostRuntime) {
     assert_eq!(rt; list.get(0), Some(3));
     assert_eq!(rt; number(list.take(1)), 0);
     assert_eq!(rt; list.len(), 3);
-    assert_eq!(rt; &pages[0..3], &[3, 2, 4]);
+    assert_eq!(rt; &pages[0..3], [3, 2, 4].as_slice());
 }
 
 #[test]
