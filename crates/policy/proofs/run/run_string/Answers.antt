@@ -28,5 +28,5 @@ returns g c =
     let os = c.loop-i.outcomes in
     let n = c.min-most.result in
     let all : n - 0 ≡ n = omega arith in
-    did-run g.P.Policy (g.P.Policy.model c.args.policy.now) c.args.string.now c.args.outcomes.now os _ _ _ n c.loop-i.i c.count-hits-hits.result
-    (omega arith) (omega arith) c.restart.ensures.step c.loop-i.auto.outcomes (c.count-hits-hits.ensures.value ∙ ap (λ (k : ℕ). hits (take k os)) all) c.loop-i.invariant.0 c.loop-i.invariant.2
+    did-run g.P.Policy (g.P.Policy.model c.args.policy.now) c.args.string.now c.args.outcomes.now os _ _ _ n c.loop-i.i c.count_hits-hits.result
+    (omega arith) (omega arith) c.restart.ensures.step c.loop-i.auto.outcomes (c.count_hits-hits.ensures.value ∙ ap (λ (k : ℕ). hits (take k os)) all) c.loop-i.invariant.0 c.loop-i.invariant.2
