@@ -4,7 +4,7 @@
 mod figures;
 mod look;
 mod lru_two;
-mod policy;
+mod as_policy;
 mod run;
 mod steps;
 mod tables;

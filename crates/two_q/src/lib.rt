@@ -3,7 +3,7 @@
 
 mod figures;
 mod lists;
-mod policy;
+mod as_policy;
 mod run;
 mod steps;
 mod tables;

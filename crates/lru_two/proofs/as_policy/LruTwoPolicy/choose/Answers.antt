@@ -7,7 +7,7 @@ use Rattle.lru_two.specs.Choice.{Choice}
 use Rattle.lru_two.specs.Model.{Model, resident, or_else, chosen}
 use Rattle.lru_two.specs.Of.{model}
 use Rattle.lru_two.proofs.Picks.{choice, choice-right}
-use Rattle.lru_two.proofs.policy.LruTwoPolicy.choose.Goals as goal
+use Rattle.lru_two.proofs.as_policy.LruTwoPolicy.choose.Goals as goal
 
 first : (m : Model) (l : List ℕ) (t : ℕ) (r : Option ℕ) → r ≡ chosen m l t → Choice m l t r
 first m l t r e = subst (λ (o : Option ℕ). Choice m l t o) (sym e) (choice m l t)

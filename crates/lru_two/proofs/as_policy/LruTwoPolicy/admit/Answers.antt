@@ -5,7 +5,7 @@ use Rattle.policy.specs.Sets.{accepts, entered, grown}
 use Rattle.lru_two.specs.Model.{Model, resident, size, forgotten, gone, come, admitted}
 use Rattle.lru_two.specs.Of.{model}
 use Rattle.lru_two.proofs.Laws.{gone-size, gone-absent, gone-bound, none-resident, none-size, some-resident, some_size, some-bound}
-use Rattle.lru_two.proofs.policy.LruTwoPolicy.admit.Goals as goal
+use Rattle.lru_two.proofs.as_policy.LruTwoPolicy.admit.Goals as goal
 
 pub let-in-requires : goal.let-in-requires
 let-in-requires c =

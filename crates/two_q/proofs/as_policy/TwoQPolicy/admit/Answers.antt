@@ -6,7 +6,7 @@ use Rattle.two_q.specs.Model.{Model, resident, size, forgotten, gone, come, admi
 use Rattle.two_q.specs.Of.{model}
 use Rattle.two_q.proofs.Counts.{gone-room, gone-absent, gone-bound}
 use Rattle.two_q.proofs.Laws.{some-resident, some_size, some-bound}
-use Rattle.two_q.proofs.policy.TwoQPolicy.admit.Goals as goal
+use Rattle.two_q.proofs.as_policy.TwoQPolicy.admit.Goals as goal
 
 pub let-in-requires : goal.let-in-requires
 let-in-requires c =

@@ -4,7 +4,7 @@ use Rattle.policy.specs.Sets.{member}
 use Rattle.two_q.specs.Model.{Model, resident, size}
 use Rattle.two_q.specs.Of.{model}
 use Rattle.two_q.proofs.Laws.{touched-resident, touched-size}
-use Rattle.two_q.proofs.policy.TwoQPolicy.hit.Goals as goal
+use Rattle.two_q.proofs.as_policy.TwoQPolicy.hit.Goals as goal
 
 pub returns-then-lists : goal.returns-then-lists
 returns-then-lists c =

@@ -3,7 +3,7 @@ use Rattle.policy.specs.Sets.{Chosen}
 use Rattle.two_q.specs.Model.{Model, kin, resident, chosen}
 use Rattle.two_q.specs.Of.{model}
 use Rattle.two_q.proofs.Laws.{chosen-right, prefers_a1in, prefers_am}
-use Rattle.two_q.proofs.policy.TwoQPolicy.choose.Goals as goal
+use Rattle.two_q.proofs.as_policy.TwoQPolicy.choose.Goals as goal
 
 right : (m : Model) (l : List ℕ) (r : Option ℕ) → r ≡ chosen m l → Chosen (resident m) l r
 right m l r e = subst (λ (o : Option ℕ). Chosen (resident m) l o) (sym e) (chosen-right m l)

@@ -3,7 +3,7 @@ use Rattle.std.proofs.lemmas.Bool.{false≢true}
 use Rattle.lru_two.specs.Model.{Model, resident, size}
 use Rattle.lru_two.specs.Of.{model}
 use Rattle.lru_two.proofs.Laws.{touched-resident, touched-size}
-use Rattle.lru_two.proofs.policy.LruTwoPolicy.hit.Goals as goal
+use Rattle.lru_two.proofs.as_policy.LruTwoPolicy.hit.Goals as goal
 
 pub returns : goal.returns
 returns c =
