@@ -1,5 +1,5 @@
 -- From a page of the pile down to the device that it lies on.
-use Rattle.std.proofs.Common.{◌≡◌, ℕ, ◌+◌, ◌-◌, ◌<◌, ◌≤◌, Bool, true, false, cond, ltb, is_some, Some, None, Err, Option, sym, refl, ap, ◌∙◌, arith}
+use Rattle.std.proofs.Common.{◌≡◌, ℕ, ◌+◌, ◌-◌, ◌<◌, ◌≤◌, true, cond, ltb, is_some, Some, None, Err, Option, refl, ap, ◌∙◌, arith}
 use Rattle.std.proofs.lemmas.Bool.{cond-true, cond-false, lt-ltb, le-ltb, false≢true}
 use Rattle.page.specs.declared.refusal.Refusal.TheVariants.{NoSuchPage, LostPage}
 use Rattle.page.specs.Raise.{raised_result}

@@ -1,10 +1,10 @@
-use Rattle.std.specs.Prelude.{◌≡◌, ℕ, zero, suc, ◌-◌, List, length, Some, None, Ok, Err}
+use Rattle.std.specs.Prelude.{◌≡◌, ℕ, zero, suc, ◌-◌, List, length, Some, Err}
 use Rattle.page.specs.declared.origin.Origin.{Origin}
 use Rattle.page.specs.declared.refusal.Refusal.TheVariants.{NoSuchPage, LostPage, WornPage}
 use Rattle.page.specs.Numbers.{number_of}
 use Rattle.page.specs.Raise.{raised}
-use Rattle.device.specs.Row.{Page, sound, worn, lost, Row, read_at, write_at, state_at, up_at}
-use Rattle.ends.specs.Bytes.{pages_in, memory_row, archive_row, page_of}
+use Rattle.device.specs.Row.{sound, worn, lost, Row, read_at, write_at, up_at}
+use Rattle.ends.specs.Bytes.{pages_in, memory_row, archive_row}
 use Rattle.layers.specs.Join.{join_row, join_size}
 use Rattle.layers.specs.Window.{window_row, window_size}
 use Rattle.defects.specs.declared.mark.Defect.TheVariants as defect

@@ -1,10 +1,10 @@
-use Rattle.std.specs.Prelude.{◌≡◌, ℕ, ◌+◌, ◌-◌, ◌<◌, ◌≤◌, List, Some, None, Ok, Err, Result}
+use Rattle.std.specs.Prelude.{◌≡◌, ℕ, ◌+◌, ◌-◌, ◌<◌, ◌≤◌, List, Some, None, Err, Result}
 use Rattle.page.specs.declared.refusal.Refusal.{Refusal}
-use Rattle.page.specs.declared.refusal.Refusal.TheVariants.{NoSuchPage, LostPage, WornPage}
+use Rattle.page.specs.declared.refusal.Refusal.TheVariants.{NoSuchPage, LostPage}
 use Rattle.page.specs.Raise.{raised_result}
 use Rattle.device.specs.declared.device.Device as device
 use Rattle.device.specs.Calls.{DidBoth}
-use Rattle.device.specs.Row.{Row, read_at, write_at}
+use Rattle.device.specs.Row.{write_at}
 use Rattle.layers.specs.declared.join.Join.{Join}
 use Rattle.layers.specs.declared.window.Window.{Window}
 use Rattle.layers.specs.JoinShape.{join_of}

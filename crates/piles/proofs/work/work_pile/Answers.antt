@@ -13,7 +13,7 @@ returns g c v =
     let t = g.E.Device.row s.below.second in
     let p = c.args.page in
     let shape = g.D.Device.shaped s.below.first.below v.0 in
-    let told = c.write-then-read.ensures v in
+    let told = c.write_then_read.ensures v in
     record {
       both = told;
       past = λ h. told.wrote ∙ past_end f l n ms r t p h;
