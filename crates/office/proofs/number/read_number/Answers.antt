@@ -1,4 +1,4 @@
-use Rattle.std.proofs.Common.{◌≡◌, length, sym, ◌∙◌, arith}
+use Rattle.std.proofs.Common.{length, sym, ◌∙◌, arith}
 use borrow.Author.Tests.{eqb-false}
 use Rattle.office.proofs.Reading.{digit_more_lem, digits_all}
 use Rattle.office.proofs.number.read_number.Goals as goal
