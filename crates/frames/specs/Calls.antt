@@ -7,7 +7,7 @@ use Rattle.device.specs.declared.device.Device as device
 use Rattle.book.specs.Bytes.{patched}
 use Rattle.book.specs.declared.grant.Kind.{Kind}
 use Rattle.frames.specs.declared.place.Place.{Place}
-use Rattle.frames.specs.Table.{Frame, page_in, fresh, marked, with, with_slot}
+use Rattle.frames.specs.Table.{Frame, page_in, fresh, marked, with_slot}
 
 -- A page is in none of the first n frames.
 abbrev pub Absent : ℕ → (ℕ → Frame) → ℕ → Type 0

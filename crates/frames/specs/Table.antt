@@ -1,5 +1,5 @@
 -- A table of frames: a frame at each place, of which the first n are in use.
-use Rattle.std.specs.Prelude.{◌≡◌, ℕ, zero, suc, ◌+◌, ◌-◌, ◌<◌, min, Bool, true, false, cond, List, [], ◌∷◌, ◌++◌, Some, None, Option, ◌==◌, nat_lt, slice_index_or}
+use Rattle.std.specs.Prelude.{ℕ, zero, suc, ◌+◌, ◌-◌, min, Bool, false, cond, List, [], ◌∷◌, ◌++◌, Some, None, Option, ◌==◌, nat_lt, slice_index_or}
 use Rattle.book.specs.Book.{by_kind}
 use Rattle.book.specs.declared.grant.Kind.{Kind}
 use Rattle.frames.specs.declared.frames.Frames.{Frames}

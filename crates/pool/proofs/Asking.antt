@@ -1,13 +1,12 @@
 -- The questions of a fix.
-use Rattle.std.proofs.Common.{◌≡◌, ℕ, zero, suc, ◌+◌, ◌<◌, ◌≤◌, Bool, true, false, cond, ◌||◌, ltb, ◌⊎◌, List, [], ◌∷◌, ◌++◌, Some, None, Option, sym, refl, ap, ◌∙◌, subst, inl, inr, arith}
-use Rattle.std.proofs.lemmas.Bool.{ltb-true, ltb-false, lt-ltb, le-ltb}
+use Rattle.std.proofs.Common.{◌≡◌, ℕ, zero, suc, ◌<◌, ◌≤◌, Bool, ◌||◌, ltb, List, [], ◌∷◌, ◌++◌, Some, None, Option, refl, ap, ◌∙◌, arith}
+use Rattle.std.proofs.lemmas.Bool.{ltb-true, lt-ltb, le-ltb}
 use Rattle.page.specs.declared.refusal.Refusal.{Refusal}
 use Rattle.page.specs.declared.refusal.Refusal.TheVariants.{PageFull, NoFrame}
 use Rattle.device.specs.Row.{Page, sound, worn, lost}
 use Rattle.book.specs.Book.{Book, by_kind, grants, held, is_not_lost, is_not_worn, first_no, refusal, ◌otherwise◌}
 use Rattle.book.specs.Call.Call.{Fix}
 use Rattle.book.specs.declared.grant.Kind.{Kind}
-use Rattle.book.specs.declared.grant.Kind.TheVariants.{Reading, Updating}
 use Rattle.book.proofs.Asked.{first-yes, yes as is-yes}
 use Rattle.frames.specs.Table.{Frame}
 use Rattle.pool.specs.Meaning.{shown}

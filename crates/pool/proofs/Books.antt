@@ -1,6 +1,5 @@
 -- Equal books, and the book of a pool whose frames are free.
-use Rattle.std.proofs.Common.{◌≡◌, ℕ, zero, ◌<◌, Some, None, Option, sym, refl, ap, ◌∙◌}
-use Rattle.device.specs.Row.{Page}
+use Rattle.std.proofs.Common.{◌≡◌, ℕ, None, ap}
 use Rattle.book.specs.Book.{Book}
 use Rattle.frames.specs.Table.{Frame, at}
 

@@ -1,9 +1,9 @@
 -- What a choice among the pages with no grant out comes to.
-use Rattle.std.proofs.Common.{◌≡◌, ℕ, ◌+◌, ◌<◌, ◌≤◌, Bool, true, false, cond, eqb, ◌⊎◌, List, is_some, Some, None, Option, sym, refl, ap, ◌∙◌, subst, inl, inr, arith}
+use Rattle.std.proofs.Common.{◌≡◌, ℕ, ◌+◌, ◌<◌, Bool, true, false, cond, eqb, List, Some, None, Option, sym, refl, ap, ◌∙◌, inl, inr, arith}
 use Rattle.std.proofs.lemmas.Bool.{both_ways, false≢true, cases_eq, eq-eqb, eqb-true}
 use Rattle.device.specs.Row.{Row}
 use Rattle.policy.specs.Sets.{member, Chosen}
-use Rattle.frames.specs.Calls.{Absent, Found}
+use Rattle.frames.specs.Calls.{Found}
 use Rattle.frames.specs.Table.{Frame, page_in, at, pins, idle}
 use Rattle.frames.specs.declared.place.Place.{Place}
 use Rattle.book.specs.declared.grant.Kind.TheVariants.{Reading, Updating}
@@ -11,7 +11,7 @@ use Rattle.pool.specs.Meaning.{pins_at}
 use Rattle.pool.specs.Sound.{Tied}
 use Rattle.pool.specs.Steps.{Vacated}
 use Rattle.pool.proofs.Counting.{idle_at, idle-member}
-use Rattle.pool.proofs.Places.{at_here, at_where, at_out}
+use Rattle.pool.proofs.Places.{at_here}
 use Rattle.pool.proofs.Standing.{resident_at}
 
 module _ (n : ℕ) (F : ℕ → Frame) (row : Row) (res : ℕ → Bool) (size : ℕ) (t : Tied n F row res size) where

@@ -1,7 +1,7 @@
 -- A page comes into a frame, in the place of another or into a free one.
-use Rattle.std.proofs.Common.{◌≡◌, ℕ, zero, suc, ◌+◌, ◌<◌, ◌≤◌, max, Bool, true, false, cond, eqb, ltb, ◌≢◌, ◌⊎◌, List, length, is_some, IfSome, Some, None, Option, sym, refl, ap, ◌∙◌, subst, inl, inr, add-one, arith}
+use Rattle.std.proofs.Common.{◌≡◌, ℕ, suc, ◌+◌, ◌<◌, max, Bool, true, false, cond, eqb, ltb, ◌≢◌, ◌⊎◌, List, length, is_some, IfSome, Some, None, Option, sym, refl, ap, ◌∙◌, subst, inl, inr, add-one, arith}
 use Rattle.std.proofs.lemmas.Bool.{cases_eq, cond-true, cond-false, eq-eqb, ne_eqb, lt-ltb}
-use Rattle.device.specs.Row.{Page, sound, worn, lost, Row, over_at, filled_at}
+use Rattle.device.specs.Row.{Page, sound, worn, lost, Row, filled_at}
 use Rattle.device.specs.Shape.{Whole}
 use Rattle.policy.specs.Sets.{entered, accepts, grown}
 use Rattle.book.specs.Book.{by_kind, put, is_not_lost, is_not_worn}

@@ -1,7 +1,7 @@
 -- The frames that have a grant out are as many as the pages that have one, and the pages listed for a
 -- choice are those that have none.
-use Rattle.std.proofs.Common.{◌≡◌, ℕ, zero, suc, ◌+◌, ◌<◌, ◌≤◌, Bool, true, false, cond, eqb, ltb, ◌≢◌, ◌⊎◌, List, [], ◌∷◌, ◌++◌, is_some, Some, None, Option, sym, refl, ap, ◌∙◌, inl, inr, arith}
-use Rattle.std.proofs.lemmas.Bool.{both_ways, false≢true, cond-true, cond-false, cases_Bool, cases_eq, eq-eqb, ne_eqb, eqb-true, eqb-false, ltb-true, ltb-false, lt-ltb, le-ltb}
+use Rattle.std.proofs.Common.{◌≡◌, ℕ, zero, suc, ◌+◌, ◌<◌, ◌≤◌, Bool, true, false, cond, eqb, ltb, ◌≢◌, List, [], ◌∷◌, ◌++◌, is_some, Some, None, Option, sym, refl, ap, ◌∙◌, inl, inr, arith}
+use Rattle.std.proofs.lemmas.Bool.{cond-true, cond-false, cases_Bool, cases_eq, eq-eqb, ne_eqb, lt-ltb, le-ltb}
 use Rattle.policy.specs.Sets.{member}
 use Rattle.book.specs.Book.{Book, grants, held_below}
 use Rattle.book.specs.declared.grant.Kind.TheVariants.{Reading, Updating}
@@ -9,7 +9,7 @@ use Rattle.frames.specs.Calls.{Absent}
 use Rattle.frames.specs.Table.{Frame, page_in, at, pins, idle}
 use Rattle.pool.specs.Meaning.{pins_at}
 use Rattle.pool.specs.Sound.{Once}
-use Rattle.pool.proofs.Places.{at_out, at_here}
+use Rattle.pool.proofs.Places.{at_out}
 
 -- how many of the first n frames have a grant out
 pub busy : ℕ → (ℕ → Frame) → ℕ

@@ -1,5 +1,5 @@
 -- What a refused call and an accepted fix come to.
-use Rattle.std.proofs.Common.{◌≡◌, ℕ, ◌+◌, Bool, true, false, cond, eqb, ◌≢◌, ◌⊎◌, List, [], ◌∷◌, IsErrAnd, Some, None, Ok, Err, Option, Result, sym, refl, ap, ◌∙◌, subst, inl, inr, arith, MatchOption}
+use Rattle.std.proofs.Common.{◌≡◌, ℕ, ◌+◌, Bool, true, false, cond, eqb, ◌≢◌, List, [], ◌∷◌, IsErrAnd, Some, None, Ok, Err, Option, Result, sym, refl, ap, ◌∙◌, subst, inl, inr, arith, MatchOption}
 use Rattle.std.proofs.lemmas.Result.{err_from_is_err_and}
 use Rattle.std.proofs.lemmas.Bool.{both_ways, false≢true, cond-true, cond-false, eq-eqb, ne_eqb}
 use Rattle.page.specs.declared.refusal.Refusal.{Refusal}
@@ -8,16 +8,14 @@ use Rattle.policy.specs.declared.outcome.Outcome.{Outcome}
 use Rattle.policy.specs.declared.outcome.Outcome.TheVariants.{Hit, Fetch}
 use Rattle.policy.specs.declared.policy.Policy as policy
 use Rattle.book.specs.Book.{Book, refusal, accepted, decided, says, next}
-use Rattle.book.specs.Call.{Call, Answer}
+use Rattle.book.specs.Call.{Call}
 use Rattle.book.specs.Call.Call.{Fix}
 use Rattle.book.specs.Call.Answer.{Granted, Refused}
-use Rattle.book.specs.Life.{Sight, Step, Flushed}
 use Rattle.book.specs.declared.grant.Kind.{Kind}
-use Rattle.turns.specs.Lived.{Doing}
 use Rattle.turns.specs.Turns.{Course, named, unless, resident_after, Fixed, Turned}
 use Rattle.pool.specs.declared.pool.Pool.{Pool}
-use Rattle.pool.specs.Did.{Did, may_write}
-use Rattle.pool.specs.Meaning.{book, sight, course, scene}
+use Rattle.pool.specs.Did.{Did}
+use Rattle.pool.specs.Meaning.{book, course}
 use Rattle.pool.specs.Sound.{Sound}
 use Rattle.pool.specs.Steps.{verdict, Left, DidTake}
 use Rattle.pool.proofs.Places.{some-none}

@@ -1,14 +1,12 @@
 -- Room for a page: the one that leaves is written back.
-use Rattle.std.proofs.Common.{◌≡◌, ℕ, zero, suc, ◌+◌, ◌<◌, Bool, true, false, cond, ltb, ◌≢◌, ◌⊎◌, List, [], ◌∷◌, ◌++◌, is_some, IfSome, Some, None, Option, sym, refl, ap, ◌∙◌, subst, inl, inr, arith}
+use Rattle.std.proofs.Common.{◌≡◌, ℕ, zero, suc, ◌+◌, ◌<◌, true, false, cond, ltb, List, [], ◌∷◌, ◌++◌, is_some, IfSome, Some, None, Option, sym, refl, ap, ◌∙◌, subst, inl, inr, arith}
 use Rattle.std.proofs.lemmas.Bool.{cases_eq, false≢true}
 use Rattle.device.specs.declared.device.Device as device
 use Rattle.policy.specs.declared.outcome.Outcome.{Outcome}
-use Rattle.policy.specs.declared.outcome.Outcome.TheVariants.{Hit, Fetch}
 use Rattle.policy.specs.declared.policy.Policy as policy
 use Rattle.book.specs.Book.{Book, first_no, granted, with_grants}
 use Rattle.book.specs.declared.grant.Kind.{Kind}
-use Rattle.frames.specs.Calls.{Absent}
-use Rattle.frames.specs.Table.{Frame, frame, at, page_in, pins, idle}
+use Rattle.frames.specs.Table.{Frame, frame, page_in, pins, idle}
 use Rattle.turns.specs.Turns.{Course, Turn, free}
 use Rattle.pool.specs.declared.pool.Pool.{Pool}
 use Rattle.pool.specs.declared.vacancy.Vacancy.{Vacancy}

@@ -1,20 +1,19 @@
 -- Pages that are written back.
-use Rattle.std.proofs.Common.{◌≡◌, ℕ, ◌+◌, ◌<◌, ◌≤◌, Bool, true, false, cond, eqb, ltb, ◌≢◌, ◌⊎◌, List, [], ◌∷◌, Some, None, Option, sym, refl, ap, ◌∙◌, subst, inl, inr, arith}
-use Rattle.std.proofs.lemmas.Bool.{both_ways, false≢true, cases_eq, eq-eqb, eqb-true, eqb-false, lt-ltb, le-ltb}
+use Rattle.std.proofs.Common.{◌≡◌, ℕ, ◌<◌, ◌≤◌, Bool, false, ◌≢◌, [], ◌∷◌, Some, None, Option, sym, refl, ap, ◌∙◌, inl, inr, arith}
+use Rattle.std.proofs.lemmas.Bool.{false≢true, cases_eq, eqb-true, eqb-false, lt-ltb, le-ltb}
 use Rattle.page.specs.declared.refusal.Refusal.{Refusal}
 use Rattle.page.specs.declared.refusal.Refusal.TheVariants.{NoSuchPage}
 use Rattle.device.specs.declared.device.Device as device
 use Rattle.policy.specs.declared.policy.Policy as policy
 use Rattle.book.specs.Book.{Book, first_no, refusal, ◌otherwise◌}
-use Rattle.book.specs.Call.{Call}
-use Rattle.book.specs.Call.Call.{Flush, FlushAll, Close}
+use Rattle.book.specs.Call.Call.{Flush, FlushAll}
 use Rattle.book.specs.Call.Answer.{Done, Refused}
 use Rattle.frames.specs.Calls.{Absent}
 use Rattle.frames.specs.Table.{Frame, frame, at, page_in}
-use Rattle.turns.specs.Turns.{Course, unless, named}
+use Rattle.turns.specs.Turns.{unless}
 use Rattle.pool.specs.declared.pool.Pool.{Pool}
 use Rattle.pool.specs.Did.{Did, DidClose}
-use Rattle.pool.specs.Meaning.{book, course, shown}
+use Rattle.pool.specs.Meaning.{book, course}
 use Rattle.pool.specs.Sound.{Sound}
 use Rattle.pool.specs.Steps.{cleaned, DidBack, DidSettle}
 use Rattle.pool.proofs.Doings.{did-refused, no_turn, says-accepted, next-accepted}

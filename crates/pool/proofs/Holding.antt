@@ -1,8 +1,8 @@
 -- How many pages have a grant out, by the frames of a sound pool.
-use Rattle.std.proofs.Common.{◌≡◌, ℕ, ◌+◌, ◌<◌, ◌≤◌, Some, None, Option, sym, refl, ap, ◌∙◌, arith}
+use Rattle.std.proofs.Common.{◌≡◌, ℕ, ◌<◌, ◌≤◌, Some, None, Option, refl, arith}
 use Rattle.device.specs.declared.device.Device as device
 use Rattle.policy.specs.declared.policy.Policy as policy
-use Rattle.book.specs.Book.{Book, held}
+use Rattle.book.specs.Book.{held}
 use Rattle.frames.specs.Table.{frame, pins}
 use Rattle.pool.specs.declared.pool.Pool.{Pool}
 use Rattle.pool.specs.Meaning.{book}

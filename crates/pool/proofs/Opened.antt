@@ -1,9 +1,9 @@
 -- A pool whose frames are free.
-use Rattle.std.proofs.Common.{◌≡◌, ℕ, ◌<◌, Bool, true, false, is_some, None, Option, sym, refl, ap, ◌∙◌, subst, arith}
-use Rattle.device.specs.Row.{Page, Row}
+use Rattle.std.proofs.Common.{◌≡◌, ℕ, ◌<◌, Bool, false, is_some, Option, sym, ap, ◌∙◌, subst, arith}
+use Rattle.device.specs.Row.{Row}
 use Rattle.book.specs.Life.{Sight, Opens}
 use Rattle.book.proofs.Lives.{lives, agree}
-use Rattle.frames.specs.Table.{Frame, at}
+use Rattle.frames.specs.Table.{Frame}
 use Rattle.pool.specs.Promise.{Promised}
 use Rattle.pool.specs.Sound.{Stands, Tied}
 use Rattle.pool.proofs.Books.{at_free}

@@ -1,15 +1,15 @@
 -- Frames over the pages of a device.
-use Rattle.std.proofs.Common.{◌≡◌, ℕ, suc, ◌+◌, ◌<◌, ◌≤◌, Bool, true, false, cond, eqb, ltb, ◌≢◌, ◌⊎◌, List, [], length, is_some, Some, None, Option, sym, refl, ap, ◌∙◌, subst, inl, inr, arith}
-use Rattle.std.proofs.lemmas.Bool.{both_ways, false≢true, ltb-true}
-use Rattle.device.specs.Row.{Page, sound, worn, lost, Row, over_at}
+use Rattle.std.proofs.Common.{◌≡◌, ℕ, ◌<◌, Bool, true, false, is_some, Some, None, Option, sym, refl, ap, ◌∙◌, subst, arith}
+use Rattle.std.proofs.lemmas.Bool.{ltb-true}
+use Rattle.device.specs.Row.{Page, sound, worn, lost, Row}
 use Rattle.device.specs.Shape.{Shaped}
 use Rattle.book.specs.Book.{by_kind, is_not_worn}
 use Rattle.book.specs.declared.grant.Kind.{Kind}
 use Rattle.book.specs.declared.grant.Kind.TheVariants.{Reading, Updating}
 use Rattle.frames.specs.Table.{Frame, page_in, at, with_pins, with_slot}
 use Rattle.pool.specs.Meaning.{shown}
-use Rattle.pool.specs.Sound.{Over, Stands, Once, Tied}
-use Rattle.pool.proofs.Places.{at_in, at_here}
+use Rattle.pool.specs.Sound.{Stands, Tied}
+use Rattle.pool.proofs.Places.{at_here}
 use Rattle.pool.proofs.Storing.{clean-over}
 
 module _ (n : ℕ) (F : ℕ → Frame) (row : Row) (res : ℕ → Bool) (size : ℕ) (t : Tied n F row res size) where

@@ -1,10 +1,10 @@
 -- A frame that is written back.
-use Rattle.std.proofs.Common.{◌≡◌, ℕ, ◌+◌, ◌<◌, ◌≤◌, Bool, true, false, cond, eqb, ◌≢◌, ◌⊎◌, List, length, Some, None, Option, sym, refl, ap, ◌∙◌, subst, inl, inr}
+use Rattle.std.proofs.Common.{◌≡◌, ℕ, false, eqb, ◌≢◌, List, Some, None, Option, sym, refl, ap, ◌∙◌, subst, inl, inr}
 use Rattle.std.proofs.lemmas.Bool.{cond-true, cond-false, eq-eqb, ne_eqb, cases_Bool}
-use Rattle.device.specs.Row.{Page, sound, worn, lost, Row, over_at}
+use Rattle.device.specs.Row.{Page, sound, worn, lost, over_at}
 use Rattle.device.specs.declared.device.Device as device
 use Rattle.frames.specs.Calls.{DidStore}
-use Rattle.frames.specs.Table.{Frame, page_in, marked, with_slot}
+use Rattle.frames.specs.Table.{Frame, page_in}
 use Rattle.pool.specs.Sound.{Stands}
 use Rattle.pool.specs.Steps.{cleaned}
 

@@ -1,5 +1,5 @@
 -- One grant more, and one count more.
-use Rattle.std.proofs.Common.{◌≡◌, ℕ, ◌+◌, ◌-◌, ◌^◌, ◌<◌, ◌≤◌, min, Option, sym, refl, ap, ◌∙◌, arith}
+use Rattle.std.proofs.Common.{◌≡◌, ℕ, ◌+◌, ◌-◌, ◌^◌, ◌<◌, ◌≤◌, min, Option, refl, arith}
 use Rattle.book.specs.Book.{by_kind}
 use Rattle.book.specs.declared.grant.Kind.{Kind}
 use Rattle.book.specs.declared.grant.Kind.TheVariants.{Reading, Updating}

@@ -1,13 +1,13 @@
 -- Reads, writes and unfixes of a page in a frame.
-use Rattle.std.proofs.Common.{◌≡◌, ℕ, suc, ◌+◌, ◌-◌, ◌<◌, ◌≤◌, Bool, true, false, cond, eqb, leb, ◌≢◌, ◌⊎◌, List, [], ◌∷◌, ◌++◌, length, take, drop, is_ok, Some, None, Ok, Err, Option, Result, sym, refl, ap, ◌∙◌, subst, inl, inr, add-zero, arith}
+use Rattle.std.proofs.Common.{◌≡◌, ℕ, ◌+◌, ◌-◌, ◌<◌, ◌≤◌, Bool, true, false, cond, eqb, leb, List, [], ◌∷◌, ◌++◌, length, take, drop, is_ok, Some, None, Ok, Err, Option, Result, sym, refl, ap, ◌∙◌, subst, inl, inr, add-zero, arith}
 use Rattle.std.proofs.lemmas.List.{take-append-drop}
 use Rattle.std.proofs.lemmas.Bool.{both_ways, false≢true, cases_Bool, cond-true, cond-false, eq-eqb, ne_eqb, leb-true}
 use Rattle.page.specs.declared.refusal.Refusal.{Refusal}
 use Rattle.page.specs.declared.refusal.Refusal.TheVariants.{PastPageEnd}
-use Rattle.device.specs.Row.{Page, sound, worn, lost, Row, over_at}
+use Rattle.device.specs.Row.{Page, sound, worn, lost, over_at}
 use Rattle.device.specs.declared.device.Device as device
 use Rattle.policy.specs.declared.policy.Policy as policy
-use Rattle.book.specs.Book.{Book, by_kind, put, granted, is_granted, first_no, refusal, accepted, with_grants, with_pages, ◌otherwise◌}
+use Rattle.book.specs.Book.{by_kind, put, is_granted, first_no, refusal, accepted, ◌otherwise◌}
 use Rattle.book.specs.Bytes.{bytes_at, patched}
 use Rattle.book.specs.Call.{Call, Answer}
 use Rattle.book.specs.Call.Call.{Read, Write, Unfix}
@@ -21,11 +21,11 @@ use Rattle.frames.specs.Calls.{fits, if_ok, is_none, changed_by, overwritten}
 use Rattle.frames.specs.Calls.{copied as taken}
 use Rattle.frames.specs.declared.frames.Frames.{Frames}
 use Rattle.frames.specs.Table.{Frame, frame, at, page_in, pins_of, marked, unpinned, with_pins, with, with_slot}
-use Rattle.turns.specs.Turns.{Course, unless, named}
+use Rattle.turns.specs.Turns.{unless, named}
 use Rattle.pool.specs.declared.pool.Pool.{Pool}
-use Rattle.pool.specs.Did.{Did, DidCopy, copied, done, reaches, may_write}
+use Rattle.pool.specs.Did.{Did, DidCopy, copied, done}
 use Rattle.pool.specs.Meaning.{book, course, shown, pins_at}
-use Rattle.pool.specs.Sound.{Sound, Stands, Once}
+use Rattle.pool.specs.Sound.{Sound, Stands}
 use Rattle.pool.proofs.Books.{same-book}
 use Rattle.pool.proofs.Changes.{put-tied, put-each, put-pages, put-reading, put-updating}
 use Rattle.pool.proofs.Doings.{did-refused, no_turn, says-accepted, next-accepted}

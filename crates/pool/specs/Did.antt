@@ -1,5 +1,5 @@
 -- What each call of a pool answers and does.
-use Rattle.std.specs.Prelude.{◌≡◌, ℕ, Bool, true, false, cond, List, length, is_ok, Some, None, Ok, Err, Result, ◌==◌}
+use Rattle.std.specs.Prelude.{◌≡◌, ℕ, Bool, true, false, cond, List, length, is_ok, Some, Ok, Err, Result, ◌==◌}
 use Rattle.page.specs.declared.refusal.Refusal.{Refusal}
 use Rattle.device.specs.declared.device.Device as device
 use Rattle.policy.specs.declared.outcome.Outcome.{Outcome}
@@ -8,7 +8,7 @@ use Rattle.book.specs.Book.{Book, opened, refusal}
 use Rattle.book.specs.Call.{Call, Answer}
 use Rattle.book.specs.Call.Call.{Fix, Read, Write, Unfix, Flush, FlushAll, Close}
 use Rattle.book.specs.Call.Answer.{Granted, Copied, Done, Refused}
-use Rattle.book.specs.Life.{Sight, Step}
+use Rattle.book.specs.Life.{Step}
 use Rattle.book.specs.declared.grant.Kind.TheVariants.{Reading, Updating}
 use Rattle.book.specs.declared.grant.Ticket.{Ticket}
 use Rattle.turns.specs.Lived.{Doing}

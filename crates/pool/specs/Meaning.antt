@@ -1,5 +1,5 @@
 -- What a pool means: its page book, the row below it, and where its policy stands.
-use Rattle.std.specs.Prelude.{◌≡◌, ℕ, ◌+◌, Bool, true, false, cond, List, [], ◌∷◌, Some, None, Option}
+use Rattle.std.specs.Prelude.{ℕ, Some, None, Option}
 use Rattle.device.specs.Row.{Page, over_at}
 use Rattle.device.specs.declared.device.Device as device
 use Rattle.policy.specs.declared.policy.Policy as policy

@@ -1,7 +1,7 @@
 -- What the inner steps of the calls answer and do.
-use Rattle.std.specs.Prelude.{◌≡◌, ℕ, ◌+◌, ◌<◌, Bool, true, false, cond, ltb, ◌⊎◌, List, [], ◌∷◌, IfSome, Some, None, Ok, Err, Option, Result, ◌≢◌, nat_lt}
+use Rattle.std.specs.Prelude.{◌≡◌, ℕ, ◌+◌, ◌<◌, true, false, cond, ltb, ◌⊎◌, List, [], ◌∷◌, IfSome, Some, None, Ok, Err, Option, Result, ◌≢◌, nat_lt}
 use Rattle.page.specs.declared.refusal.Refusal.{Refusal}
-use Rattle.page.specs.declared.refusal.Refusal.TheVariants.{NoSuchPage, ClockFull, NotGranted}
+use Rattle.page.specs.declared.refusal.Refusal.TheVariants.{NoSuchPage, ClockFull}
 use Rattle.device.specs.declared.device.Device as device
 use Rattle.policy.specs.declared.outcome.Outcome.{Outcome}
 use Rattle.policy.specs.declared.outcome.Outcome.TheVariants.{Hit, Fetch}
@@ -11,7 +11,7 @@ use Rattle.book.specs.Call.{Answer}
 use Rattle.book.specs.Call.Answer.{Granted, Refused}
 use Rattle.book.specs.declared.grant.Kind.{Kind}
 use Rattle.frames.specs.Calls.{Absent}
-use Rattle.frames.specs.Table.{Frame, frame, page_in, at, idle, marked, pins, pins_of, with, with_slot}
+use Rattle.frames.specs.Table.{Frame, frame, page_in, idle, marked, pins, pins_of, with, with_slot}
 use Rattle.frames.specs.declared.place.Place.{Place}
 use Rattle.turns.specs.Turns.{Turn, free}
 use Rattle.pool.specs.declared.pool.Pool.{Pool}

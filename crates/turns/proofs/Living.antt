@@ -1,19 +1,19 @@
 -- The laws of lives, by the steps of a life.
-use Rattle.std.proofs.Common.{◌≡◌, ℕ, ◌+◌, ◌*◌, Bool, true, false, cond, List, [], ◌∷◌, ◌++◌, length, Some, None, Option, sym, refl, ap, ◌∙◌, subst, arith, length-append, MatchOption}
+use Rattle.std.proofs.Common.{◌≡◌, ℕ, ◌+◌, Bool, true, false, cond, List, [], ◌∷◌, ◌++◌, length, Some, None, Option, sym, refl, ap, ◌∙◌, arith, length-append, MatchOption}
 use Rattle.page.specs.declared.refusal.Refusal.{Refusal}
-use Rattle.policy.specs.Runs.{hit_by, hits, fetches}
+use Rattle.policy.specs.Runs.{hits, fetches}
 use Rattle.policy.specs.declared.outcome.Outcome.{Outcome}
 use Rattle.policy.specs.declared.outcome.Outcome.TheVariants.{Hit, Fetch}
 use Rattle.policy.specs.declared.policy.Policy as policy
-use Rattle.book.specs.Book.{Book, next, refusal}
+use Rattle.book.specs.Book.{Book, refusal}
 use Rattle.book.specs.declared.grant.Kind.{Kind}
 use Rattle.book.specs.Call.{Call, Answer}
 use Rattle.book.specs.Call.Call.{Fix, Read, Write, Unfix, Flush, FlushAll, Close}
 use Rattle.book.specs.Counts.{is_fix, one, count}
-use Rattle.book.specs.Life.{Sight, Life}
+use Rattle.book.specs.Life.{Life}
 use Rattle.book.specs.Life.Life.{start as born, step as next-step}
 use Rattle.turns.specs.Turns.{Course, named, unless, after, Fixed, Turned}
-use Rattle.turns.specs.Lived.{Scene, Doing, Lived, LivedLaws}
+use Rattle.turns.specs.Lived.{Scene, Lived, LivedLaws}
 use Rattle.turns.specs.Lived.Lived.{start, doing}
 
 hits_append : (xs ys : List Outcome) → hits (xs ++ ys) ≡ hits xs + hits ys

@@ -3,7 +3,6 @@ use Rattle.std.specs.Prelude.{◌≡◌, ℕ, ◌+◌, ◌*◌, List, [], ◌∷
 use Rattle.policy.specs.Runs.{hits, fetches}
 use Rattle.policy.specs.declared.outcome.Outcome.{Outcome}
 use Rattle.policy.specs.declared.policy.Policy as policy
-use Rattle.book.specs.Book.{Book}
 use Rattle.book.specs.Call.{Call, Answer}
 use Rattle.book.specs.Counts.{is_fix, count}
 use Rattle.book.specs.Life.{Sight, Step, Life}

@@ -1,5 +1,5 @@
 -- What the fixes of a pool do to its policy.
-use Rattle.std.specs.Prelude.{◌≡◌, ℕ, ◌+◌, Bool, true, false, cond, List, [], ◌∷◌, Some, None, Option, MatchOption, ◌==◌, nat_lt}
+use Rattle.std.specs.Prelude.{◌≡◌, ℕ, ◌+◌, Bool, false, cond, List, [], ◌∷◌, Some, None, Option, MatchOption, ◌==◌, nat_lt}
 use Rattle.page.specs.declared.refusal.Refusal.{Refusal}
 use Rattle.policy.specs.Sets.{member, entered}
 use Rattle.policy.specs.declared.outcome.Outcome.{Outcome}

@@ -1,4 +1,3 @@
-use Rattle.std.proofs.Common.{◌≡◌, ℕ, ◌<◌}
 use Rattle.frames.specs.Calls.{Absent}
 use Rattle.frames.specs.Table.{frame}
 use Rattle.frames.proofs.frames.Frames.find.Given as goal

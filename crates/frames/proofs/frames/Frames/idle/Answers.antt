@@ -1,8 +1,8 @@
-use Rattle.std.proofs.Common.{◌≡◌, ℕ, ◌<◌, ◌≤◌, length, take, sym, ap, ◌∙◌, arith}
+use Rattle.std.proofs.Common.{◌<◌, length, take, sym, ◌∙◌, arith}
 use Rattle.frames.specs.Table.{frame}
 use Rattle.frames.proofs.Listing.{idle-more, idle-same}
 use Rattle.frames.proofs.frames.Frames.idle.Goals as goal
-use Rattle.frames.proofs.frames.Frames.idle.Goals.{then-is-idle, else-is-idle}
+use Rattle.frames.proofs.frames.Frames.idle.Goals.{then-is_idle, else-is_idle}
 
 pub loop-i-preserved : goal.loop-i-preserved
 loop-i-preserved c =
@@ -11,15 +11,15 @@ loop-i-preserved c =
     let n = c.loop-i.n in
     let xs = c.loop-i.list in
     let room : n < length xs = omega (arith, c.loop-i.invariant.0, c.loop-i.invariant.1, c.args.self.now.few) in
-    elim c.if-is-idle.branch [
-      | then-is-idle w ↦
-          (let e = idle-more i n F xs room (sym c.is-idle.ensures ∙ w.if-is-idle.true) c.loop-i.invariant.2 in
+    elim c.if-is_idle.branch [
+      | then-is_idle w ↦
+          (let e = idle-more i n F xs room (sym c.is_idle.ensures ∙ w.if-is_idle.true) c.loop-i.invariant.2 in
           let a = w.n-is in
           let b = w.list-is in
-          (omega (arith, a, c.loop-i.invariant.0), c.if-is-idle.array_long, cc))
-      | else-is-idle w ↦
-          (let e = idle-same i F (take n xs) (sym c.is-idle.ensures ∙ w.if-is-idle.false) c.loop-i.invariant.2 in
+          (omega (arith, a, c.loop-i.invariant.0), c.if-is_idle.array_long, cc))
+      | else-is_idle w ↦
+          (let e = idle-same i F (take n xs) (sym c.is_idle.ensures ∙ w.if-is_idle.false) c.loop-i.invariant.2 in
           let a = w.n-is in
           let b = w.list-is in
-          (omega (arith, a, c.loop-i.invariant.0), c.if-is-idle.array_long, cc))
+          (omega (arith, a, c.loop-i.invariant.0), c.if-is_idle.array_long, cc))
     ]

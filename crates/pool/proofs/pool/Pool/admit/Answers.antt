@@ -1,11 +1,10 @@
-use Rattle.std.proofs.Common.{◌≡◌, ℕ, ◌+◌, ◌<◌, ◌≤◌, Bool, true, false, cond, ltb, is_some, Some, None, Option, sym, refl, ap, ◌∙◌, subst, inl, inr, arith}
+use Rattle.std.proofs.Common.{◌≡◌, ℕ, ◌+◌, true, false, is_some, Some, None, sym, refl, ap, ◌∙◌, inl, arith}
 use Rattle.std.proofs.lemmas.Bool.{both_ways, cond-false, lt-ltb}
-use Rattle.policy.specs.declared.outcome.Outcome.{Outcome}
 use Rattle.policy.specs.declared.outcome.Outcome.TheVariants.{Hit, Fetch}
 use Rattle.book.specs.Book.{by_kind, is_not_lost, is_not_worn}
-use Rattle.frames.specs.Table.{Frame, frame, at, idle, page_in}
+use Rattle.frames.specs.Table.{frame, at, idle, page_in}
 use Rattle.frames.specs.declared.slot.Slot.{Slot}
-use Rattle.pool.specs.Meaning.{book, shown}
+use Rattle.pool.specs.Meaning.{book}
 use Rattle.pool.proofs.Asking.{early-found, lost-shown, worn-shown}
 use Rattle.pool.proofs.Books.{same-book}
 use Rattle.pool.proofs.Choosing.{candidates}
@@ -50,7 +49,7 @@ returns g c r clean =
     let gone : (k : ℕ) → leaving ≡ Some k → res k ≡ true = λ k l. s.tied.same k ∙ ap is_some (left k l).at in
     let away : res q ≡ false = s.tied.same q ∙ ap is_some none in
     let ok : c.admit.result ≡ true = c.admit.ensures.answer ∙ enters res (p.size m) bound q leaving away (λ e. (let z = room_for n F bound i leaving r.vacant.place e in omega (arith, z, s.tied.filled))) gone in
-    let count : c.saturating-add-self.result ≡ pool.fetches + 1 = c.saturating-add-self.ensures ∙ saturated pool.fetches pool.hits pool.clock (omega (arith, s.counts)) asked.time in
+    let count : c.saturating_add-self.result ≡ pool.fetches + 1 = c.saturating_add-self.ensures ∙ saturated pool.fetches pool.hits pool.clock (omega (arith, s.counts)) asked.time in
     record {
       took = record {
         sound = record {

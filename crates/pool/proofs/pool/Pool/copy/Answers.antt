@@ -1,20 +1,20 @@
-use Rattle.std.proofs.Common.{◌≡◌, Result, sym, refl, ap, ◌∙◌, subst}
+use Rattle.std.proofs.Common.{Result, sym, subst}
 use Rattle.page.specs.declared.refusal.Refusal.{Refusal}
 use Rattle.pool.specs.Did.{DidCopy}
 use Rattle.pool.proofs.Doings.{exit_err}
 use Rattle.pool.proofs.Working.{copy_refused, did_copy}
 use Rattle.pool.proofs.pool.Pool.copy.Goals as goal
 
-pub returns-in-err-place : goal.returns-in-err-place
-returns-in-err-place g c s =
+pub returns-in_err-place : goal.returns-in_err-place
+returns-in_err-place g c s =
     let d = g.D.Device in
     let p = g.P.Policy in
     let pool = c.args.self.now in
     let old = c.args.buffer.now in
     let C : Result (Unit {0}) Refusal → Type 0 = λ r. DidCopy d p pool c.args.ticket c.args.offset old r old in
-    subst C (sym (exit_err c.from-residual.result _ c.from-residual.ensures.1)) (copy_refused d p pool c.args.ticket c.args.offset old _ s (c.in-err-place.ensures s))
+    subst C (sym (exit_err c.from_residual.result _ c.from_residual.ensures.1)) (copy_refused d p pool c.args.ticket c.args.offset old _ s (c.in_err-place.ensures s))
 
 pub returns : goal.returns
 returns g c s =
-    let out = c.in-ok-place.ensures s in
-    did_copy g.D.Device g.P.Policy c.args.self.now c.args.ticket c.args.offset c.args.buffer.now _ _ c.in-ok-place.place.index s out.0 out.1 out.2 c.read.ensures.answer c.read.ensures.buffer
+    let out = c.in_ok-place.ensures s in
+    did_copy g.D.Device g.P.Policy c.args.self.now c.args.ticket c.args.offset c.args.buffer.now _ _ c.in_ok-place.place.index s out.0 out.1 out.2 c.read.ensures.answer c.read.ensures.buffer

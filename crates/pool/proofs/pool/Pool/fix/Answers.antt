@@ -1,21 +1,18 @@
-use Rattle.std.proofs.Common.{◌≡◌, ℕ, ◌+◌, ◌<◌, ◌≤◌, Some, None, Ok, Err, Option, Result, sym, refl, ap, ◌∙◌, subst, arith}
+use Rattle.std.proofs.Common.{◌≡◌, ℕ, ◌+◌, ◌<◌, ◌≤◌, Option, Result, sym, refl, ap, ◌∙◌, subst, arith}
 use Rattle.page.specs.declared.refusal.Refusal.{Refusal}
 use Rattle.page.specs.declared.refusal.Refusal.TheVariants.{PageFull, NoFrame}
-use Rattle.book.specs.Book.{grants, held, first_no}
-use Rattle.book.specs.Call.{Answer}
+use Rattle.book.specs.Book.{grants, first_no}
 use Rattle.book.specs.Call.Call.{Fix}
 use Rattle.book.specs.declared.grant.Kind.TheVariants.{Reading, Updating}
-use Rattle.frames.specs.Table.{Frame, frame, at, pins, page_in}
+use Rattle.frames.specs.Table.{Frame, frame, pins}
 use Rattle.frames.specs.declared.slot.Slot.{Slot}
 use Rattle.pool.specs.Did.{Did}
 use Rattle.pool.specs.Meaning.{book, pins_at}
 use Rattle.pool.specs.Steps.{early, fixed_answer}
 use Rattle.pool.proofs.Asking.{early_no, full_no, room_no, room-yes, seat_yes}
-use Rattle.pool.proofs.Counting.{busy, held_is, busy-most, busy-less, busy-full}
 use Rattle.pool.proofs.Doings.{did-refused, did_fix, exit_err, verdict-none, verdict-some}
 use Rattle.pool.proofs.Holding.{held_all, held-some, held-vacant}
 use Rattle.pool.proofs.Places.{at_here, at_out}
-use Rattle.pool.proofs.Standing.{page-low}
 use Rattle.pool.proofs.pool.Pool.fix.Goals as goal
 
 -- the slot's grants are those that were counted
@@ -25,16 +22,16 @@ slot-few x y m e h l = let z = ap pins e in omega (arith, z)
 slot-many : (x y : Slot) (m n : ℕ) → x ≡ y → m ≡ pins x → 255 ≤ m → n ≡ pins y → 255 ≤ n
 slot-many x y m n e h l k = let z = ap pins e in omega (arith, z)
 
-pub returns-in-err-ask : goal.returns-in-err-ask
-returns-in-err-ask g c s =
+pub returns-in_err-ask : goal.returns-in_err-ask
+returns-in_err-ask g c s =
     let d = g.D.Device in
     let p = g.P.Policy in
     let pool = c.args.self.now in
     let b = book d p pool in
     let kind = c.args.kind in
     let q = c.args.page in
-    let out = exit_err c.from-residual.result _ c.from-residual.ensures.1 in
-    let no-early = verdict-some (first_no (early b kind q)) _ (sym c.in-err-ask.was ∙ c.ask.ensures.answer s) in
+    let out = exit_err c.from_residual.result _ c.from_residual.ensures.1 in
+    let no-early = verdict-some (first_no (early b kind q)) _ (sym c.in_err-ask.was ∙ c.ask.ensures.answer s) in
     let A : Result (Unit {0}) Refusal → Type 0 = λ r. Did d p pool (Fix kind q) (fixed_answer r kind pool.mark q) pool in
     subst A (sym out) (did-refused d p pool (Fix kind q) _ s (early_no b kind q _ no-early))
 
@@ -48,7 +45,7 @@ returns-then-pins-ge255 g c s =
     let q = c.args.page in
     let i = c.in-Some.place.index in
     let found = c.in-Some.ensures in
-    let may = verdict-none (first_no (early b kind q)) (sym c.in-ok-ask.was ∙ c.ask.ensures.answer s) in
+    let may = verdict-none (first_no (early b kind q)) (sym c.in_ok-ask.was ∙ c.ask.ensures.answer s) in
     let out : grants b q ≡ pins (frame pool.frames i).slot = ap (λ (o : Option Frame). pins_at Reading o + pins_at Updating o) (at_here pool.frames.used (frame pool.frames) i q s.tied.once found.0 found.1) in
     did-refused d p pool (Fix kind q) PageFull s (full_no b kind q may (slot-many _ _ _ _ c.slot.ensures c.pins.ensures c.if-pins-ge255.true out))
 
@@ -62,24 +59,24 @@ returns-in-Some g c s =
     let q = c.args.page in
     let i = c.in-Some.place.index in
     let found = c.in-Some.ensures in
-    let may = verdict-none (first_no (early b kind q)) (sym c.in-ok-ask.was ∙ c.ask.ensures.answer s) in
+    let may = verdict-none (first_no (early b kind q)) (sym c.in_ok-ask.was ∙ c.ask.ensures.answer s) in
     let out : grants b q ≡ pins (frame pool.frames i).slot = ap (λ (o : Option Frame). pins_at Reading o + pins_at Updating o) (at_here pool.frames.used (frame pool.frames) i q s.tied.once found.0 found.1) in
     let few : pins (frame pool.frames i).slot < 255 = slot-few _ _ _ c.slot.ensures c.pins.ensures c.if-pins-ge255.false in
     did_fix d p pool c.take.new.self kind q
     (seat_yes b kind q may (omega (arith, out, few)) (λ z. held-some d p pool s i found.0 (sym out ∙ z)))
     (c.take.ensures s may found.0 found.1 few refl)
 
-pub returns-in-default-room : goal.returns-in-default-room
-returns-in-default-room g c s =
+pub returns-in_default-room : goal.returns-in_default-room
+returns-in_default-room g c s =
     let d = g.D.Device in
     let p = g.P.Policy in
     let pool = c.args.self.now in
     let b = book d p pool in
     let kind = c.args.kind in
     let q = c.args.page in
-    let may = verdict-none (first_no (early b kind q)) (sym c.in-ok-ask.was ∙ c.ask.ensures.answer s) in
-    let none : grants b q ≡ 0 = ap (λ (o : Option Frame). pins_at Reading o + pins_at Updating o) (at_out pool.frames.used (frame pool.frames) q c.in-default.ensures) in
-    let full = c.in-default-room.ensures s in
+    let may = verdict-none (first_no (early b kind q)) (sym c.in_ok-ask.was ∙ c.ask.ensures.answer s) in
+    let none : grants b q ≡ 0 = ap (λ (o : Option Frame). pins_at Reading o + pins_at Updating o) (at_out pool.frames.used (frame pool.frames) q c.in_default.ensures) in
+    let full = c.in_default-room.ensures s in
     did-refused d p pool (Fix kind q) NoFrame s (room_no b kind q may none (held_all d p pool s full.0 full.1))
 
 pub returns : goal.returns
@@ -90,10 +87,10 @@ returns g c s =
     let b = book d p pool in
     let kind = c.args.kind in
     let q = c.args.page in
-    let may = verdict-none (first_no (early b kind q)) (sym c.in-ok-ask.was ∙ c.ask.ensures.answer s) in
-    let none : grants b q ≡ 0 = ap (λ (o : Option Frame). pins_at Reading o + pins_at Updating o) (at_out pool.frames.used (frame pool.frames) q c.in-default.ensures) in
+    let may = verdict-none (first_no (early b kind q)) (sym c.in_ok-ask.was ∙ c.ask.ensures.answer s) in
+    let none : grants b q ≡ 0 = ap (λ (o : Option Frame). pins_at Reading o + pins_at Updating o) (at_out pool.frames.used (frame pool.frames) q c.in_default.ensures) in
     let v = c.in-Some-room.vacancy in
     let vac = c.in-Some-room.ensures s in
     did_fix d p pool c.fetch.new.self kind q
     (room-yes b kind q may none (held-vacant d p pool s v.place.index v.leaving vac.place))
-    (c.fetch.ensures (record { sound = s; early = may; absent = c.in-default.ensures; vacant = vac; time = refl }))
+    (c.fetch.ensures (record { sound = s; early = may; absent = c.in_default.ensures; vacant = vac; time = refl }))

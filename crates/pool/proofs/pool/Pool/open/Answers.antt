@@ -1,8 +1,6 @@
-use Rattle.pool.proofs.Counting.{held_is, idle-member}
-use Rattle.std.proofs.Common.{◌≡◌, ℕ, Option, sym, refl, ap, ◌∙◌, arith}
+use Rattle.std.proofs.Common.{◌≡◌, ℕ, Option, sym, refl, ap, arith}
 use Rattle.book.specs.declared.grant.Kind.TheVariants.{Reading, Updating}
 use Rattle.frames.specs.Table.{Frame, frame, at}
-use Rattle.turns.specs.Turns.{Course}
 use Rattle.pool.specs.Meaning.{shown, pins_at}
 use Rattle.pool.proofs.Books.{same-book, at_free}
 use Rattle.pool.proofs.Opened.{tied-free, promised}

@@ -1,8 +1,7 @@
-use Rattle.std.proofs.Common.{◌≡◌, ℕ, sym, refl, ap, ◌∙◌, arith}
+use Rattle.std.proofs.Common.{◌≡◌, sym, ap, ◌∙◌, arith}
 use Rattle.book.specs.Book.{Book}
 use Rattle.turns.specs.Turns.{Course}
 use Rattle.pool.specs.Did.{at_time}
-use Rattle.pool.specs.Meaning.{book, course}
 use Rattle.pool.proofs.Opened.{promised}
 use Rattle.pool.proofs.pool.Pool.open_at.Goals as goal
 

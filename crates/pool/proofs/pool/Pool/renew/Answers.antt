@@ -1,4 +1,4 @@
-use Rattle.std.proofs.Common.{◌≡◌, ℕ, Option, sym, refl, ap, ◌∙◌, arith}
+use Rattle.std.proofs.Common.{◌≡◌, ℕ, Option, refl, ap, ◌∙◌, arith}
 use Rattle.book.specs.Book.{Book}
 use Rattle.book.specs.declared.grant.Kind.TheVariants.{Reading, Updating}
 use Rattle.frames.specs.Table.{Frame, frame, at}
@@ -14,8 +14,8 @@ returns g c s =
     let d = g.D.Device in
     let p = g.P.Policy in
     let pool = c.args.self.now in
-    let mid = c.flush-all.new.self in
-    let all = c.flush-all.ensures s in
+    let mid = c.flush_all.new.self in
+    let all = c.flush_all.ensures s in
     let n = c.clear.new.self.used in
     let F = frame c.clear.new.self in
     let row = d.row mid.device in

@@ -1,7 +1,6 @@
-use Rattle.std.proofs.Common.{◌≡◌, ℕ, ◌+◌, ◌-◌, ◌<◌, ◌≤◌, Bool, true, false, cond, ltb, List, take, Some, None, Option, sym, refl, ap, ◌∙◌, subst, arith}
+use Rattle.std.proofs.Common.{◌≡◌, ℕ, ◌-◌, ◌<◌, ◌≤◌, ltb, List, take, None, sym, ap, ◌∙◌, arith}
 use native.Mathlib.Nat.{sub-zero}
 use Rattle.std.proofs.lemmas.Bool.{cond-true, cond-false, lt-ltb, le-ltb}
-use Rattle.policy.specs.Sets.{Chosen}
 use Rattle.frames.specs.Table.{frame, idle, page_in}
 use Rattle.pool.proofs.Choosing.{all-pinned, chosen-idle, chosen-place}
 use Rattle.pool.proofs.Places.{at_where}
@@ -23,25 +22,25 @@ returns-in-Some g c s =
       place = (spare.0, omega (arith, c.frames.ensures, spare.1));
     }
 
-pub returns-in-default-choose : goal.returns-in-default-choose
-returns-in-default-choose g c s =
+pub returns-in_default-choose : goal.returns-in_default-choose
+returns-in_default-choose g c s =
     let pool = c.args.self.now in
     let p = g.P.Policy in
     let fs = pool.frames in
     let same = passed c.idle-n.result c.idle-n.new.list (idle fs.used (frame fs)) c.idle-n.ensures.pages in
     let kept = p.kept pool.policy in (
-      omega (arith, s.tied.filled, c.frames.ensures, c.in-default.ensures, kept.within),
-      all-pinned fs.used (frame fs) _ _ _ s.tied _ same c.in-default-choose.ensures.right,
+      omega (arith, s.tied.filled, c.frames.ensures, c.in_default.ensures, kept.within),
+      all-pinned fs.used (frame fs) _ _ _ s.tied _ same c.in_default-choose.ensures.right,
     )
 
-pub returns-in-default-find : goal.returns-in-default-find
-returns-in-default-find g c s =
+pub returns-in_default-find : goal.returns-in_default-find
+returns-in_default-find g c s =
     let pool = c.args.self.now in
     let fs = pool.frames in
     let same = passed c.idle-n.result c.idle-n.new.list (idle fs.used (frame fs)) c.idle-n.ensures.pages in
     let w = chosen-idle fs.used (frame fs) _ _ _ s.tied _ c.in-Some-choose.page same c.in-Some-choose.ensures.right.0 in
     let seat = at_where fs.used (frame fs) c.in-Some-choose.page w.0 w.1 in
-    absurd (c.in-default-find.ensures seat.place seat.low (ap page_in seat.is ∙ seat.page))
+    absurd (c.in_default-find.ensures seat.place seat.low (ap page_in seat.is ∙ seat.page))
 
 pub returns : goal.returns
 returns g c s =
@@ -51,7 +50,7 @@ returns g c s =
     let fs = pool.frames in
     let ls = idle fs.used (frame fs) in
     let same = passed c.idle-n.result c.idle-n.new.list ls c.idle-n.ensures.pages in
-    let full : p.bound m ≤ p.size m = omega (arith, s.tied.filled, c.frames.ensures, c.in-default.ensures) in
+    let full : p.bound m ≤ p.size m = omega (arith, s.tied.filled, c.frames.ensures, c.in_default.ensures) in
     record {
       leaving = c.in-Some-choose.ensures.step
           ∙ ap (λ (l : List ℕ). p.chosen m l c.args.t) same

@@ -1,10 +1,9 @@
-use Rattle.std.proofs.Common.{◌≡◌, ℕ, ◌+◌, ◌<◌, ◌≤◌, min, Bool, true, cond, eqb, Some, None, Option, sym, refl, ap, ◌∙◌, subst, inl, inr, arith}
+use Rattle.std.proofs.Common.{◌≡◌, ℕ, ◌+◌, min, true, Some, None, sym, refl, ap, ◌∙◌, subst, inl, arith}
 use Rattle.std.proofs.lemmas.Bool.{cond-true}
-use Rattle.page.specs.declared.refusal.Refusal.{Refusal}
 use Rattle.policy.specs.declared.outcome.Outcome.TheVariants.{Hit}
 use Rattle.book.specs.Book.{by_kind, put, is_not_worn}
 use Rattle.book.specs.declared.grant.Kind.TheVariants.{Reading, Updating}
-use Rattle.frames.specs.Table.{Frame, frame, at, idle, page_in, pins, pins_of, pinned, with_pins, with, with_slot}
+use Rattle.frames.specs.Table.{frame, at, idle, pins_of, pinned, with_slot}
 use Rattle.pool.specs.Meaning.{book, pins_at}
 use Rattle.pool.specs.Sound.{Stands}
 use Rattle.pool.proofs.Asking.{early-found, worn-shown}
@@ -45,7 +44,7 @@ returns g c s early low page few time =
     let more : min (pins_of kind f.slot + 1) 255 ≡ by_kind kind R U q + 1 =
     pins-one-more kind f.slot few ∙ ap (λ (x : ℕ). x + 1) (sym (granted_at kind (at n F) q ∙ ap (pins_at kind) (at_here n F i q once low page))) in
     let S : ℕ → Type 0 = λ k. Stands (Some f') (row k) in
-    let count : c.saturating-add-self.result ≡ pool.hits + 1 = c.saturating-add-self.ensures ∙ saturated pool.hits pool.fetches pool.clock s.counts asked.time in
+    let count : c.saturating_add-self.result ≡ pool.hits + 1 = c.saturating_add-self.ensures ∙ saturated pool.hits pool.fetches pool.clock s.counts asked.time in
     record {
       sound = record {
         below = s.below;

@@ -1,4 +1,4 @@
-use Rattle.std.proofs.Common.{◌≡◌, Result, sym, refl, ap, ◌∙◌, subst}
+use Rattle.std.proofs.Common.{Result, sym, subst}
 use Rattle.page.specs.declared.refusal.Refusal.{Refusal}
 use Rattle.book.specs.Call.Call.{Unfix}
 use Rattle.pool.specs.Did.{Did, done}
@@ -6,15 +6,15 @@ use Rattle.pool.proofs.Doings.{exit_err}
 use Rattle.pool.proofs.Working.{unfix_refused, did_unfix}
 use Rattle.pool.proofs.pool.Pool.unfix.Goals as goal
 
-pub returns-in-err-place : goal.returns-in-err-place
-returns-in-err-place g c s =
+pub returns-in_err-place : goal.returns-in_err-place
+returns-in_err-place g c s =
     let d = g.D.Device in
     let p = g.P.Policy in
     let pool = c.args.self.now in
     let A : Result (Unit {0}) Refusal → Type 0 = λ r. Did d p pool (Unfix c.args.ticket) (done r) pool in
-    subst A (sym (exit_err c.from-residual.result _ c.from-residual.ensures.1)) (unfix_refused d p pool c.args.ticket _ s (c.in-err-place.ensures s))
+    subst A (sym (exit_err c.from_residual.result _ c.from_residual.ensures.1)) (unfix_refused d p pool c.args.ticket _ s (c.in_err-place.ensures s))
 
 pub returns : goal.returns
 returns g c s =
-    let out = c.in-ok-place.ensures s in
-    did_unfix g.D.Device g.P.Policy c.args.self.now c.args.ticket c.in-ok-place.place.index c.unpin.new.self s out.0 out.1 out.2 c.unpin.ensures.used c.unpin.ensures.frames
+    let out = c.in_ok-place.ensures s in
+    did_unfix g.D.Device g.P.Policy c.args.self.now c.args.ticket c.in_ok-place.place.index c.unpin.new.self s out.0 out.1 out.2 c.unpin.ensures.used c.unpin.ensures.frames

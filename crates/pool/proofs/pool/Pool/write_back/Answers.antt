@@ -1,4 +1,4 @@
-use Rattle.std.proofs.Common.{◌≡◌, ℕ, ◌<◌, ◌≢◌, Some, None, Option, sym, refl, ap, ◌∙◌, subst}
+use Rattle.std.proofs.Common.{◌≡◌, ℕ, Some, Option, sym, refl, ap, ◌∙◌, subst}
 use Rattle.device.specs.Row.{Page, over_at}
 use Rattle.book.specs.declared.grant.Kind.TheVariants.{Reading, Updating}
 use Rattle.frames.specs.Table.{Frame, frame, at, page_in, with}
@@ -21,17 +21,17 @@ returns g c s low =
     let i = c.args.place.index in
     let f = F i in
     let p = page_in f in
-    let F' = frame c.write-back.new.self in
+    let F' = frame c.write_back.new.self in
     let row = d.row pool.device in
-    let row' = d.row c.write-back.new.device in
-    let did = c.write-back.ensures.did s.below in
-    let is : (j : ℕ) → F' j ≡ with F i (cleaned f) j = λ j. c.write-back.ensures.frames j ∙ ap (λ (x : Frame). with F i x j) did.frame in
+    let row' = d.row c.write_back.new.device in
+    let did = c.write_back.ensures.did s.below in
+    let is : (j : ℕ) → F' j ≡ with F i (cleaned f) j = λ j. c.write_back.ensures.frames j ∙ ap (λ (x : Frame). with F i x j) did.frame in
     let once = s.tied.once in
     let st : Stands (Some f) (row p) = stands_at n F row _ _ s.tied i p low refl in
-    let w = stored d f (F' i) pool.device c.write-back.new.device s.below did st in
+    let w = stored d f (F' i) pool.device c.write_back.new.device s.below did st in
     let here : at n F p ≡ Some f = at_here n F i p once low refl in
-    let n' = c.write-back.new.self.used in
-    let used = c.write-back.ensures.used in
+    let n' = c.write_back.new.self.used in
+    let used = c.write_back.ensures.used in
     let S : Option Page → Type 0 = λ o. Stands (Some (cleaned f)) o in
     record {
       sound = record {
