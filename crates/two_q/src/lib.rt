@@ -1,9 +1,9 @@
 // Full 2Q, the replacement policy of Johnson and Shasha (1994).
 #![tactic(auto)]
 
+mod as_policy;
 mod figures;
 mod lists;
-mod as_policy;
 mod run;
 mod steps;
 mod tables;

@@ -6,12 +6,12 @@ use Rattle.two_q.specs.Lists.{less}
 use Rattle.two_q.proofs.Pages.{sought, placed, at, none-less}
 use Rattle.two_q.proofs.tables.remove.Goals as goal
 
-pub returns-in-default : goal.returns-in-default
-returns-in-default c =
+pub returns-in_default : goal.returns-in_default
+returns-in_default c =
     let p = c.args.page in
     let xs = take c.args.len c.args.table.now in
     let l = c.new-list.ensures.live in
-    let no : member p xs ≡ false = sym (placed p xs) ∙ ap is_some (sought p _ xs _ c.find.ensures.value l ∙ c.in-default.is) in
+    let no : member p xs ≡ false = sym (placed p xs) ∙ ap is_some (sought p _ xs _ c.find.ensures.value l ∙ c.in_default.is) in
     let m : live c.new-list.result ≡ less p xs = l ∙ none-less p xs no in
     search rules
 

@@ -8,12 +8,12 @@ use Rattle.two_q.proofs.Counts.{gone-room, gone-absent, gone-bound}
 use Rattle.two_q.proofs.Laws.{some-resident, some_size, some-bound}
 use Rattle.two_q.proofs.as_policy.TwoQPolicy.admit.Goals as goal
 
-pub let-in-requires : goal.let-in-requires
-let-in-requires c =
+pub let_in-requires : goal.let_in-requires
+let_in-requires c =
     let s = c.forget-known.new.self in
-    let t = c.let-out.new.self in
+    let t = c.let_out.new.self in
     let f = c.forget-known.ensures.after in
-    let o = c.let-out.ensures in
+    let o = c.let_out.ensures in
     let out = c.in-Some.gone in
     let here : resident (model s) out ≡ true = ap (λ (m : Model). resident m out) f ∙ sym c.has-in-Some.ensures ∙ c.if-not-has.false in
     let away : resident (model s) c.args.page ≡ false = ap (λ (m : Model). resident m c.args.page) f ∙ sym c.has.ensures ∙ c.if-has.false in
@@ -33,8 +33,8 @@ returns-else-not-has c =
     let is : c.args.leaving ≡ Some out = c.in-Some.is in
     let here : resident m out ≡ true = sym c.has-in-Some.ensures ∙ c.if-not-has.false in
     let away : resident m p ≡ false = sym c.has.ensures ∙ c.if-has.false in
-    let after : model c.let-in.new.self ≡ admitted m p (Some out) =
-    c.let-in.ensures ∙ ap (λ (n : Model). come n c.forget-known.result p) (c.let-out.ensures ∙ ap (λ (n : Model). gone n (Some out)) c.forget-known.ensures.after) ∙ ap (λ (b : Bool). come (gone (forgotten m p) (Some out)) b p) c.forget-known.ensures.answer in
+    let after : model c.let_in.new.self ≡ admitted m p (Some out) =
+    c.let_in.ensures ∙ ap (λ (n : Model). come n c.forget-known.result p) (c.let_out.ensures ∙ ap (λ (n : Model). gone n (Some out)) c.forget-known.ensures.after) ∙ ap (λ (b : Bool). come (gone (forgotten m p) (Some out)) b p) c.forget-known.ensures.answer in
     record {
       answer = sym (ap (λ (l : Option ℕ). accepts (resident m) (size m) q.frames.value p l) is ∙ ap (λ (b : Bool). cond b false (resident m out)) away ∙ here);
       step = λ _. after ∙ ap (admitted m p) (sym is);

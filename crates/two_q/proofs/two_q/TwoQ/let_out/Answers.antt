@@ -5,20 +5,20 @@ use Rattle.two_q.proofs.Models.{models}
 use Rattle.two_q.proofs.Counts.{length_less_le, count_less_le, front_kept}
 use Rattle.two_q.proofs.two_q.TwoQ.let_out.Goals as goal
 
-pub invariant-of-self : goal.invariant-of-self
-invariant-of-self c =
+pub invariant_of-self : goal.invariant_of-self
+invariant_of-self c =
     let q = c.args.self.now in
     let a = length-take q.am_len q.am in
     let b = length_less_le c.args.page (take q.am_len q.am) in
-    (omega (arith, q.few), (q.short, (λ p. rw c.remove-len.ensures.after (omega (arith, q.once p, count_less_le c.args.page p (take q.am_len q.am))), tt)))
+    record { few = omega (arith, q.few); short = q.short; once = λ p. rw c.remove-len.ensures.after (omega (arith, q.once p, count_less_le c.args.page p (take q.am_len q.am))) }
 
-pub invariant-of-self-2 : goal.invariant-of-self-2
-invariant-of-self-2 c =
+pub invariant_of-self-2 : goal.invariant_of-self-2
+invariant_of-self-2 c =
     let q = c.args.self.now in
     let a = length-take q.a1in_len q.a1in in
     let b = length_less_le c.args.page (take q.a1in_len q.a1in) in
     let k : c.push-len.result ≤ q.frames.value / 2 = search rules in
-    (omega (arith, q.few), (k, (λ p. rw c.remove-len-2.ensures.after (omega (arith, q.once p, count_less_le c.args.page p (take q.a1in_len q.a1in))), tt)))
+    record { few = omega (arith, q.few); short = k; once = λ p. rw c.remove-len-2.ensures.after (omega (arith, q.once p, count_less_le c.args.page p (take q.a1in_len q.a1in))) }
 
 pub returns : goal.returns
 returns c =
