@@ -1,10 +1,10 @@
 // LRU-2, the replacement policy of O'Neil, O'Neil and Weikum (1993), with K = 2.
 #![tactic(auto)]
 
+mod as_policy;
 mod figures;
 mod look;
 mod lru_two;
-mod as_policy;
 mod run;
 mod steps;
 mod tables;

@@ -6,12 +6,12 @@ use Rattle.blocks.specs.Blocks.{pages, less}
 use Rattle.blocks.proofs.Places.{at, unplaced}
 use Rattle.lru_two.proofs.tables.remove.Goals as goal
 
-pub returns-in-default : goal.returns-in-default
-returns-in-default c =
+pub returns-in_default : goal.returns-in_default
+returns-in_default c =
     let p = c.args.page in
     let xs = take c.args.len c.args.table.now in
     let l = c.new-list.ensures.live in
-    let no = unplaced p xs (ap (λ (bs : List Block). place_of p (pages bs)) (sym l) ∙ sym c.find.ensures.value ∙ c.in-default.is) in
+    let no = unplaced p xs (ap (λ (bs : List Block). place_of p (pages bs)) (sym l) ∙ sym c.find.ensures.value ∙ c.in_default.is) in
     let m : live c.new-list.result ≡ less p xs = l ∙ sym no.same in
     search rules
 

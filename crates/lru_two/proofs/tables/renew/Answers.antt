@@ -6,14 +6,14 @@ use Rattle.blocks.specs.Blocks.{pages, refreshed}
 use Rattle.blocks.proofs.Places.{at, unplaced, take-anew}
 use Rattle.lru_two.proofs.tables.renew.Goals as goal
 
-pub returns-in-default : goal.returns-in-default
-returns-in-default c =
+pub returns-in_default : goal.returns-in_default
+returns-in_default c =
     let n = c.args.len in
     let xs = c.args.table.now in
     let p = c.args.page in
     let whole : n ≡ n - 0 = omega arith in
-    let e : place_of p (pages (take n xs)) ≡ c.place-of.result = ap (λ (k : ℕ). place_of p (pages (take k xs))) whole ∙ sym c.place-of.ensures.value in
-    sym ((unplaced p (take n xs) (e ∙ c.in-default.is)).still (refreshed c.args.crp c.args.t))
+    let e : place_of p (pages (take n xs)) ≡ c.place_of.result = ap (λ (k : ℕ). place_of p (pages (take k xs))) whole ∙ sym c.place_of.ensures.value in
+    sym ((unplaced p (take n xs) (e ∙ c.in_default.is)).still (refreshed c.args.crp c.args.t))
 
 pub returns : goal.returns
 returns c =
@@ -23,7 +23,7 @@ returns c =
     let p = c.args.page in
     let f = refreshed c.args.crp c.args.t in
     let whole : n ≡ n - 0 = omega arith in
-    let e : place_of p (pages (take n xs)) ≡ c.place-of.result = ap (λ (k : ℕ). place_of p (pages (take k xs))) whole ∙ sym c.place-of.ensures.value in
+    let e : place_of p (pages (take n xs)) ≡ c.place_of.result = ap (λ (k : ℕ). place_of p (pages (take k xs))) whole ∙ sym c.place_of.ensures.value in
     let a = at p i (take n xs) (e ∙ c.in-Some.is) in
     let h : i < n = omega (arith, a.within, length-take n xs) in
     take-anew n i xs c.refreshed.result

@@ -25,16 +25,16 @@ returns-in-Some c =
     let l = c.args.listed.now in
     let t = c.args.t in
     let ok = candidate l (Some m.crp) t in
-    let e : Some c.in-Some.block.page ≡ chosen m l t = joined m l t (Some c.in-Some.block) _ (c.in-Some.ensures.value ∙ ap (scanned ok None) c.resident-blocks.ensures) refl in
+    let e : Some c.in-Some.block.page ≡ chosen m l t = joined m l t (Some c.in-Some.block) _ (c.in-Some.ensures.value ∙ ap (scanned ok None) c.resident_blocks.ensures) refl in
     record { step = e; right = right m l t _ e; first = first m l t _ e }
 
-pub returns-in-Some-first-to-leave : goal.returns-in-Some-first-to-leave
-returns-in-Some-first-to-leave c =
+pub returns-in-Some-first_to_leave : goal.returns-in-Some-first_to_leave
+returns-in-Some-first_to_leave c =
     let m = model c.args.self.now in
     let l = c.args.listed.now in
     let t = c.args.t in
-    let none : None ≡ scanned (candidate l (Some m.crp) t) None m.blocks = c.in-default.ensures.value ∙ ap (scanned (candidate l (Some m.crp) t) None) c.resident-blocks.ensures in
-    let e : Some c.in-Some-first-to-leave.block.page ≡ chosen m l t = joined m l t None (Some c.in-Some-first-to-leave.block) none (c.in-Some-first-to-leave.ensures.value ∙ ap (scanned (candidate l None t) None) c.resident-blocks-2.ensures) in
+    let none : None ≡ scanned (candidate l (Some m.crp) t) None m.blocks = c.in_default.ensures.value ∙ ap (scanned (candidate l (Some m.crp) t) None) c.resident_blocks.ensures in
+    let e : Some c.in-Some-first_to_leave.block.page ≡ chosen m l t = joined m l t None (Some c.in-Some-first_to_leave.block) none (c.in-Some-first_to_leave.ensures.value ∙ ap (scanned (candidate l None t) None) c.resident_blocks-2.ensures) in
     record { step = e; right = right m l t _ e; first = first m l t _ e }
 
 pub returns-in-None : goal.returns-in-None
@@ -42,6 +42,6 @@ returns-in-None c =
     let m = model c.args.self.now in
     let l = c.args.listed.now in
     let t = c.args.t in
-    let none : None ≡ scanned (candidate l (Some m.crp) t) None m.blocks = c.in-default.ensures.value ∙ ap (scanned (candidate l (Some m.crp) t) None) c.resident-blocks.ensures in
-    let e : None ≡ chosen m l t = joined m l t None None none (c.in-None.ensures.value ∙ ap (scanned (candidate l None t) None) c.resident-blocks-2.ensures) in
+    let none : None ≡ scanned (candidate l (Some m.crp) t) None m.blocks = c.in_default.ensures.value ∙ ap (scanned (candidate l (Some m.crp) t) None) c.resident_blocks.ensures in
+    let e : None ≡ chosen m l t = joined m l t None None none (c.in-None.ensures.value ∙ ap (scanned (candidate l None t) None) c.resident_blocks-2.ensures) in
     record { step = e; right = right m l t _ e; first = first m l t _ e }

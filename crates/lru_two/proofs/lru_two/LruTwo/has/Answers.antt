@@ -8,4 +8,4 @@ use Rattle.lru_two.proofs.lru_two.LruTwo.has.Goals as goal
 pub returns : goal.returns
 returns c =
     let p = c.args.page in
-    c.is-some.ensures ∙ ap is_some c.block-of.ensures ∙ has_block p _ ∙ ap (λ (bs : List Block). member p (pages bs)) c.resident-blocks.ensures
+    c.is_some.ensures ∙ ap is_some c.block_of.ensures ∙ has_block p _ ∙ ap (λ (bs : List Block). member p (pages bs)) c.resident_blocks.ensures
