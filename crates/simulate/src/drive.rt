@@ -54,7 +54,7 @@ fn leaving<P: Policy, S: Simulator<P>>(
     }
     let heap = pool.frames.allocator();
     let listing = pool.settings.listing;
-    let listed = listing.listed(heap, &pool.frames, page, &mut pool.random)?;
+    let listed = listing.listed(*heap, &pool.frames, page, &mut pool.random)?;
     let victim = policy.choose(&listed, t);
     if victim != simulator.victim(&listed, t) {
         return Err(Stop::Differs(Mismatch::Victim));
