@@ -1,11 +1,10 @@
 -- What a layer passes on of a page that lies below.
-use Rattle.std.proofs.Common.{◌≡◌, ℕ, List, IsErrAnd, Some, None, Ok, Err, Option, Result, sym, refl, ap, ◌∙◌}
+use Rattle.std.proofs.Common.{◌≡◌, ℕ, List, IsErrAnd, Some, None, Err, Option, Result, sym, refl, ap, ◌∙◌}
 use Rattle.std.proofs.lemmas.Result.{err_from_is_err_and}
-use Rattle.page.specs.declared.state.State.{State}
 use Rattle.page.specs.declared.refusal.Refusal.{Refusal}
 use Rattle.page.specs.declared.refusal.Refusal.TheVariants.{NoSuchPage}
-use Rattle.page.specs.Raise.{raised_state, raised_refusal, raised_result}
-use Rattle.device.specs.Row.{Page, sound, worn, lost, state_at, read_at, write_at, filled_at, over_at, up_at}
+use Rattle.page.specs.Raise.{raised_result}
+use Rattle.device.specs.Row.{Page, sound, worn, lost, read_at, write_at, filled_at, over_at, up_at}
 
 pub read_up : (o : Option Page) → read_at (up_at o) ≡ raised_result (read_at o)
 read_up None = refl

@@ -1,5 +1,5 @@
 -- A refused read or write of a device that is left as it was.
-use Rattle.std.proofs.Common.{◌≡◌, ℕ, true, false, List, is_ok, Some, None, Option, Result, sym, refl, ap, ◌∙◌}
+use Rattle.std.proofs.Common.{◌≡◌, ℕ, false, List, is_ok, Some, None, Option, Result, sym, refl, ap, ◌∙◌}
 use Rattle.std.proofs.lemmas.Bool.{false≢true}
 use Rattle.page.specs.declared.refusal.Refusal.{Refusal}
 use Rattle.device.specs.Row.{Page, sound, worn, lost, Row, read_at, write_at, filled_at}

@@ -1,4 +1,4 @@
-use Rattle.std.specs.Prelude.{◌≡◌, ℕ, ◌≤◌, List, length, is_some, Some, None, Option, nat_lt}
+use Rattle.std.specs.Prelude.{◌≡◌, ℕ, ◌≤◌, length, is_some, Some, None, Option, nat_lt}
 use Rattle.device.specs.Row.{Page, sound, worn, lost, Row}
 
 -- A readable page has 512 bytes.

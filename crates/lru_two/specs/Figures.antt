@@ -1,8 +1,8 @@
 use Rattle.std.specs.Prelude.{◌≡◌, ℕ, List, [], ◌∷◌, Some, None}
 use Rattle.blocks.specs.declared.block.Block.{Block}
-use Rattle.lru_two.specs.Model.{Model, chosen, admitted, touched}
+use Rattle.lru_two.specs.Model.{Model, chosen, touched}
 use Rattle.lru_two.specs.AsPrinted.{block_of, of_state}
-use Rattle.lru_two.specs.Printed.{State, Run, printed_run}
+use Rattle.lru_two.specs.Printed.{printed_run}
 
 abbrev pub b : ℕ → ℕ → ℕ → ℕ → Block
 b page hist1 hist2 last = record { page = page; hist1 = hist1; hist2 = hist2; last = last }

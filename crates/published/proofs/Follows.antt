@@ -13,7 +13,7 @@ use Rattle.book.specs.Call.{Call, Answer}
 use Rattle.book.specs.Call.Call.{Fix, Read, Write, Unfix, Flush, FlushAll, Close}
 use Rattle.book.specs.declared.grant.Kind.{Kind}
 use Rattle.book.proofs.Asked.{fixed}
-use Rattle.turns.specs.Turns.{Course, free, named, unless, fixed_page, resident_after, after, Turn, Fixed, Turned}
+use Rattle.turns.specs.Turns.{Course, free, named, unless, fixed_page, resident_after, Turn, Fixed, Turned}
 use Rattle.turns.specs.Lived.{Scene, Lived}
 use Rattle.turns.specs.Lived.Lived.{start as born, doing}
 use Rattle.published.specs.Fixings.{Fixing, fixing, fixings}

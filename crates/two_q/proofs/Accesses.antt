@@ -7,7 +7,7 @@ use Rattle.policy.specs.declared.outcome.Outcome.TheVariants.{Hit, Fetch}
 use Rattle.policy.proofs.Turns.{Leaving, accepted, standing-again}
 use Rattle.two_q.specs.AsPrinted.{of_queues}
 use Rattle.two_q.specs.Lists.{less}
-use Rattle.two_q.specs.Model.{Model, resident, size, touched, chosen, forgotten, gone, come, admitted}
+use Rattle.two_q.specs.Model.{Model, resident, touched, chosen, forgotten, gone, come, admitted}
 use Rattle.two_q.specs.Of.{two_q}
 use Rattle.two_q.specs.Printed.{Queues, put, reclaimfor, Accessed, found, onto_am, onto_ain, access}
 use Rattle.two_q.proofs.Counts.{by_bool}

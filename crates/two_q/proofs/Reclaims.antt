@@ -5,7 +5,7 @@ use Rattle.policy.specs.Runs.{leaving, Standing}
 use Rattle.policy.specs.Sets.{member}
 use Rattle.two_q.specs.AsPrinted.{of_queues}
 use Rattle.two_q.specs.Lists.{count, or_else, nearest_tail}
-use Rattle.two_q.specs.Model.{Model, resident, size, chosen, gone}
+use Rattle.two_q.specs.Model.{Model, chosen, gone}
 use Rattle.two_q.specs.Of.{two_q}
 use Rattle.two_q.specs.Printed.{Queues, Kin, Kout, tail_of, untailed, remembered, Reclaimed, reclaimfor}
 use Rattle.two_q.proofs.Counts.{by_bool, gone-a1in, gone_am}

@@ -1,6 +1,6 @@
 -- What the policy 2Q means.
 use Rattle.std.proofs.Common.{sym, arith, length-append, length-take}
-use Rattle.std.specs.Prelude.{◌+◌, ◌++◌, take}
+use Rattle.std.specs.Prelude.{◌++◌, take}
 use Rattle.policy.specs.Sets.{Kept}
 use Rattle.policy.specs.declared.policy.Policy as policy
 use Rattle.two_q.specs.declared.two_q.TwoQ.{TwoQ}

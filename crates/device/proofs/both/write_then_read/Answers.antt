@@ -1,4 +1,4 @@
-use Rattle.std.proofs.Common.{◌≡◌, true, false, is_ok, sym, ap, ◌∙◌}
+use Rattle.std.proofs.Common.{◌≡◌, is_ok, sym, ap, ◌∙◌}
 use Rattle.device.specs.Row.{Row, read_at, filled_at}
 use Rattle.device.proofs.Rows.{written_same, written-other, written-refused, read-written, filled-over}
 use Rattle.device.proofs.both.write_then_read.Goals as goal
