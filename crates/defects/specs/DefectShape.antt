@@ -7,7 +7,7 @@ use Rattle.device.specs.Shape.{Shaped, Whole}
 use Rattle.defects.specs.declared.list.DefectList.{DefectList}
 use Rattle.defects.specs.declared.mark.Defect.{Defect}
 use Rattle.defects.specs.declared.mark.Defect.TheVariants as defect
-use Rattle.defects.specs.Defects.{Marks, mark_of, marked, marked_at, defect_row}
+use Rattle.defects.specs.Defects.{Marks, mark_of, marked_at, defect_row}
 use Rattle.device.specs.Raising.{some_up, whole_up}
 
 some-marked : (d : Option Defect) (k : ℕ) (o : Option Page) → is_some (marked_at d k o) ≡ is_some o

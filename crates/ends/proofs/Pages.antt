@@ -1,5 +1,5 @@
 -- What a write of one page into bytes leaves: that page, every other page, and the tail.
-use Rattle.std.proofs.Common.{◌≡◌, ℕ, ◌+◌, ◌-◌, ◌*◌, ◌<◌, ◌≤◌, Bool, true, false, cond, eqb, ltb, List, length, take, drop, Some, None, sym, refl, ap, ◌∙◌, arith, length-append, length-drop, length-take, ltb-false, ltb-true, eqb-true}
+use Rattle.std.proofs.Common.{◌≡◌, ℕ, ◌+◌, ◌-◌, ◌*◌, ◌<◌, Bool, true, false, cond, eqb, ltb, List, length, take, drop, Some, None, sym, refl, ap, ◌∙◌, arith, length-append, length-drop, length-take, ltb-false, ltb-true, eqb-true}
 use borrow.Author.Tests.{eqb-false}
 use borrow.Rule.Slice.PartMut.{put_mid}
 use Rattle.std.proofs.lemmas.List.{drop-take}

@@ -1,4 +1,4 @@
-use Rattle.std.specs.Prelude.{ℕ, ◌*◌, ◌/◌, min, cond, List, ◌++◌, length, take, drop, Some, None, nat_lt}
+use Rattle.std.specs.Prelude.{ℕ, ◌*◌, ◌/◌, min, cond, List, length, take, drop, Some, None, nat_lt}
 use Rattle.page.specs.declared.origin.Origin.{Origin}
 use Rattle.device.specs.Row.{Row, sound, worn}
 

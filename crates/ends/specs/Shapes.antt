@@ -1,5 +1,5 @@
 -- The rows of the two ends have the shape that every device owes.
-use Rattle.std.specs.Prelude.{◌≡◌, ℕ, ◌+◌, ◌*◌, ◌<◌, ◌≤◌, Bool, true, false, cond, List, length, is_some, Some, None, nat_lt, refl}
+use Rattle.std.specs.Prelude.{◌≡◌, ℕ, ◌<◌, Bool, true, false, cond, List, length, is_some, Some, None, nat_lt, refl}
 use Rattle.std.proofs.Common.{arith, length-take, length-drop, ltb-true, lt-ltb}
 use Rattle.std.proofs.lemmas.Bool.{false≢true}
 use Rattle.device.specs.declared.device.Device as device

@@ -1,11 +1,10 @@
 -- A window over a device: what it shows, and what its calls do.
-use Rattle.std.proofs.Common.{◌≡◌, ℕ, ◌+◌, ◌<◌, ◌≤◌, Bool, true, false, cond, eqb, ltb, List, is_some, Some, None, Option, Result, sym, refl, ap, ◌∙◌, subst, inl, inr, arith, ltb-true, le-ltb, lt-ltb, eq-eqb, ne_eqb, eqb-true}
-use borrow.Author.Tests.{eqb-false}
+use Rattle.std.proofs.Common.{◌≡◌, ℕ, ◌+◌, ◌<◌, ◌≤◌, Bool, true, false, cond, eqb, ltb, List, is_some, Some, None, Option, Result, sym, refl, ap, ◌∙◌, inl, inr, arith, ltb-true, le-ltb, lt-ltb, eq-eqb, ne_eqb}
 use Rattle.std.proofs.lemmas.Bool.{cond-true, cases_eq, false≢true}
 use Rattle.page.specs.declared.refusal.Refusal.{Refusal}
 use Rattle.page.specs.Raise.{raised_result}
 use Rattle.device.specs.Calls.{DidRead, DidWrite}
-use Rattle.device.specs.Row.{Page, Row, read_at, write_at, filled_at, over_at, written, up_at}
+use Rattle.device.specs.Row.{Page, Row, read_at, write_at, filled_at, over_at, up_at}
 use Rattle.device.specs.Shape.{Shaped}
 use Rattle.layers.specs.Window.{window_row, window_size}
 use Rattle.device.proofs.Passing.{read_up, write_up, filled_up, over_up}

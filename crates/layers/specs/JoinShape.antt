@@ -1,5 +1,5 @@
 -- A join of two devices has the shape that every device owes.
-use Rattle.std.specs.Prelude.{◌≡◌, ℕ, ◌+◌, ◌-◌, ◌<◌, ◌≤◌, min, Bool, true, false, cond, is_some, None, Option, nat_lt, refl}
+use Rattle.std.specs.Prelude.{◌≡◌, ℕ, ◌-◌, Bool, true, false, cond, is_some, None, Option, nat_lt, refl}
 use Rattle.std.proofs.Common.{sym, ◌∙◌, arith, ltb-true, ltb-false, le-ltb}
 use Rattle.device.specs.declared.device.Device as device
 use Rattle.device.specs.Row.{Page, Row, up_at}

@@ -1,8 +1,8 @@
 -- A window over a device has the shape that every device owes.
-use Rattle.std.specs.Prelude.{◌≡◌, ℕ, ◌+◌, ◌-◌, ◌<◌, ◌≤◌, min, Bool, true, false, cond, is_some, Some, None, Option, nat_lt, refl}
-use Rattle.std.proofs.Common.{sym, ap, ◌∙◌, arith, ltb-true, ltb-false, le-ltb}
+use Rattle.std.specs.Prelude.{◌≡◌, ℕ, ◌+◌, ◌-◌, ◌<◌, ◌≤◌, min, Bool, true, false, cond, is_some, None, Option, nat_lt, refl}
+use Rattle.std.proofs.Common.{sym, ◌∙◌, arith, ltb-true, ltb-false, le-ltb}
 use Rattle.device.specs.declared.device.Device as device
-use Rattle.device.specs.Row.{Page, sound, worn, lost, Row, up_at}
+use Rattle.device.specs.Row.{Page, Row, up_at}
 use Rattle.device.specs.Shape.{Shaped, Whole}
 use Rattle.layers.specs.declared.window.Window.{Window}
 use Rattle.device.specs.Raising.{ltb-same, some_up, whole_up}

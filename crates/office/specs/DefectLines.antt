@@ -2,7 +2,6 @@ use Rattle.std.specs.Prelude.{ℕ, ◌-◌, cond, List, [], ◌∷◌, length, t
 use Rattle.std.specs.Str.{bytes_eq}
 use Rattle.defects.specs.declared.mark.Defect.{Defect}
 use Rattle.defects.specs.declared.mark.Defect.TheVariants.{Worn, Lost}
-use Rattle.defects.specs.declared.mark.Mark.{Mark}
 use Rattle.office.specs.declared.defect_line.DefectLine.{DefectLine}
 use Rattle.office.specs.declared.defect_line.DefectLine.TheVariants as line
 use Rattle.office.specs.Numbers.{number_in}

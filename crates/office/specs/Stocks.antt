@@ -2,7 +2,6 @@ use Rattle.std.specs.Prelude.{◌≡◌, ℕ, List, length, vec_items}
 use Rattle.std.specs.Global.{Vec}
 use Rattle.ends.specs.Bytes.{pages_in}
 use Rattle.defects.specs.declared.mark.Mark.{Mark}
-use Rattle.volume.specs.declared.marking.MarkRefused.{MarkRefused}
 use Rattle.volume.specs.Volume.{Unopened, shipped_row, shipped_size}
 use Rattle.stock.specs.declared.book.Layout.{Layout}
 use Rattle.stock.specs.declared.line.Line.{Line}

@@ -64,9 +64,9 @@ empty-zeros bs h z = ap (λ n. replicate n 0) (sym h.long) ∙ sym (zeros bs z)
 batch_in_lem : (s : ℕ) (b : Batch) → BatchFits b → batch_in (batch_with s b) ≡ b
 batch_in_lem s b f = λ i. record {
   number = number-bytes 4 b.number f.number_fits i;
-  grocer = number-bytes 4 b.grocer f.grocer-fits i;
-  coupons = number-bytes 4 b.coupons f.coupons-fits i;
-  face_value = number-bytes 8 b.face_value f.face-value-fits i;
+  grocer = number-bytes 4 b.grocer f.grocer_fits i;
+  coupons = number-bytes 4 b.coupons f.coupons_fits i;
+  face_value = number-bytes 8 b.face_value f.face_value_fits i;
 }
 
 pub batch-back : (r : BatchRecord) → BatchRecordFits r → batch_of (batch_bytes r) ≡ Ok r
@@ -118,7 +118,7 @@ batch_inverse = record { sized = batch-sized; back = batch-back; only = batch-on
 
 -- Fees.
 fee_in_lem : (s : ℕ) (f : Fee) → FeeFits f → fee_in (fee_with s f) ≡ f
-fee_in_lem s f h = λ i. record { batch = number-bytes 4 f.batch h.batch-fits i; amount = number-bytes 8 f.amount h.amount-fits i }
+fee_in_lem s f h = λ i. record { batch = number-bytes 4 f.batch h.batch-fits i; amount = number-bytes 8 f.amount h.amount_fits i }
 
 pub fee-back : (r : FeeRecord) → FeeRecordFits r → fee_of (fee_bytes r) ≡ Ok r
 unfolding fee_bytes fee_of

@@ -1,9 +1,7 @@
 -- The shipped volume, by the bytes of its books.
-use Rattle.std.proofs.Common.{◌≡◌, ℕ, ◌<◌, ◌≤◌, Bool, true, false, cond, ltb, List, length, take, is_some, IsErrAnd, Some, None, Ok, Err, Result, sym, refl, ap, ◌∙◌, arith, MatchResult}
+use Rattle.std.proofs.Common.{◌≡◌, ℕ, ◌<◌, ◌≤◌, Bool, true, false, cond, ltb, List, length, is_some, IsErrAnd, None, Ok, Err, Result, refl, ap, ◌∙◌, arith, MatchResult}
 use Rattle.std.proofs.lemmas.List.{take_all}
 use Rattle.std.proofs.lemmas.Bool.{cond-true, cond-false, lt-ltb, le-ltb}
-use Rattle.std.specs.List.{slice_get}
-use Rattle.std.proofs.lemmas.Result.{err_from_is_err_and}
 use Rattle.page.specs.declared.refusal.Refusal.{Refusal}
 use Rattle.page.specs.declared.refusal.Refusal.TheVariants.{NoSuchPage, NoPlace}
 use Rattle.ends.specs.declared.memory.Memory.{Memory}
@@ -15,7 +13,7 @@ use Rattle.defects.specs.declared.mark.Mark.{Mark}
 use Rattle.defects.specs.Defects.{Marks, mark_of, taken, mark_answer, unmarked}
 use Rattle.volume.specs.declared.marking.MarkRefused.{MarkRefused}
 use Rattle.volume.specs.Listed.{worst_of, After, Stopped}
-use Rattle.volume.specs.Volume.{Shipped, Opened, Unopened, marked_row, shipped_row}
+use Rattle.volume.specs.Volume.{Shipped, Opened, Unopened, marked_row}
 
 no_marks : (k : ℕ) → mark_of unmarked k ≡ None
 unfolding unmarked

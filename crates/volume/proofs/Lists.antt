@@ -1,18 +1,17 @@
 -- One mark after another.
-use Rattle.std.proofs.Common.{◌≡◌, ℕ, ◌+◌, ◌<◌, Bool, true, false, cond, eqb, List, length, get_or, take, is_ok, Some, Ok, Err, Option, Result, sym, refl, ap, ◌∙◌, subst, inl, inr}
+use Rattle.std.proofs.Common.{◌≡◌, ℕ, ◌+◌, ◌<◌, true, eqb, List, length, get_or, is_ok, Some, Err, Option, Result, sym, refl, ap, ◌∙◌, subst, inl, inr}
 use Rattle.std.proofs.lemmas.Option.{slice_get-get_or}
 use Rattle.std.proofs.lemmas.List.Sums.{fold_more}
-use Rattle.std.proofs.lemmas.Bool.{cases_eq, cond-true, cond-false, eq-eqb, ne_eqb, false≢true}
+use Rattle.std.proofs.lemmas.Bool.{cases_eq, cond-true, cond-false, eq-eqb, ne_eqb}
 use Rattle.std.specs.List.{slice_get}
 use Rattle.page.specs.declared.refusal.Refusal.{Refusal}
 use Rattle.device.specs.declared.device.Device as device
 use Rattle.defects.specs.declared.list.DefectList.{DefectList}
 use Rattle.defects.specs.declared.mark.Defect.{Defect}
 use Rattle.defects.specs.declared.mark.Mark.{Mark}
-use Rattle.defects.specs.Defects.{Marks, Marking, mark_of, mark_answer, worst}
+use Rattle.defects.specs.Defects.{Marks, Marking, mark_of, mark_answer}
 use Rattle.defects.specs.Marked.{DidMark}
-use Rattle.volume.specs.declared.marking.MarkRefused.{MarkRefused}
-use Rattle.volume.specs.Listed.{marking, worst_of, After, Stopped}
+use Rattle.volume.specs.Listed.{marking, After, Stopped}
 
 -- an accepted mark, page by page
 step : (ms ms' : Marks) (m : Mark) → Marking ms m.page m.defect ms' → (k : ℕ) → mark_of ms' k ≡ marking k (mark_of ms k) m

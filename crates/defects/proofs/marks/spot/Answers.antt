@@ -7,4 +7,4 @@ returns-in-Some c =
     spot_marked c.args.marks.now c.args.page c.in-Some.place h.0 h.1 h.2
 
 pub returns-in-None : goal.returns-in-None
-returns-in-None c = spot_if_free c.args.marks.now c.args.page c.in-None.ensures c.free-place.result c.free-place.ensures
+returns-in-None c = spot_if_free c.args.marks.now c.args.page c.in-None.ensures c.free_place.result c.free_place.ensures

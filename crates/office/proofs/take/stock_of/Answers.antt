@@ -4,6 +4,6 @@ use Rattle.office.proofs.take.stock_of.Goals as goal
 
 pub returns : goal.returns
 returns c =
-    let opened = c.in-ok-volume.ensures in
-    let took = c.in-ok-lines.ensures opened.valid in
-    took.lines ∙ same_lines _ _ _ _ _ _ _ _ c.whole-pages.ensures c.whole-pages-2.ensures opened.size opened.row
+    let opened = c.in_ok-volume.ensures in
+    let took = c.in_ok-lines.ensures opened.valid in
+    took.lines ∙ same_lines _ _ _ _ _ _ _ _ c.whole_pages.ensures c.whole_pages-2.ensures opened.size opened.row

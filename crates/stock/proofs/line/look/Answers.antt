@@ -1,5 +1,4 @@
-use Rattle.std.proofs.Common.{◌≡◌, ap, ◌∙◌}
-use Rattle.stock.specs.Books.{book_of}
+use Rattle.std.proofs.Common.{ap, ◌∙◌}
 use Rattle.stock.specs.Lines.{heard_of, found_at}
 use Rattle.stock.proofs.Looks.{heard_found, same_line}
 use Rattle.stock.proofs.line.look.Goals as goal
@@ -8,14 +7,14 @@ pub returns : goal.returns
 returns g c v =
     let page = c.args.page in
     let o = g.D.Device.row c.args.volume.now page in
-    let b = c.book-of-book.ensures in
+    let b = c.book_of-book.ensures in
     let read = c.read-answer.ensures v in
     record {
       line = same_line page _ _ _ _ _ _ b (c.state-state.ensures v)
           (c.heard-found.ensures
-          ∙ ap (λ x. heard_of c.book-of-book.result x c.read-answer.new.buffer) read.answer
-          ∙ ap (heard_of c.book-of-book.result _) read.buffer
-          ∙ heard_found c.book-of-book.result o _
+          ∙ ap (λ x. heard_of c.book_of-book.result x c.read-answer.new.buffer) read.answer
+          ∙ ap (heard_of c.book_of-book.result _) read.buffer
+          ∙ heard_found c.book_of-book.result o _
           ∙ ap (λ x. found_at x o) b);
       valid = read.valid;
       size = read.size;

@@ -1,4 +1,4 @@
-use Rattle.std.proofs.Common.{◌≡◌, is_ok, ap, ◌∙◌}
+use Rattle.std.proofs.Common.{is_ok, ap, ◌∙◌}
 use Rattle.std.proofs.lemmas.Bool.{cond-true}
 use Rattle.stock.proofs.Looks.{line_same, lines_more}
 use Rattle.stock.proofs.take.take_stock.Goals as goal
@@ -9,7 +9,7 @@ loop-page-preserved g c v =
     let did = c.look-line.ensures seen.valid in
     let rows = g.D.Device.row c.args.volume.now in
     let line = did.line ∙ line_same c.args.layout rows (g.D.Device.row c.loop-page.volume) c.loop-page.page (seen.row c.loop-page.page) in
-    let pushed = c.push.ensures.items ∙ cond-true (is_ok c.push.result) _ _ (ap is_ok c.in-ok-push.was) in
+    let pushed = c.push.ensures.items ∙ cond-true (is_ok c.push.result) _ _ (ap is_ok c.in_ok-push.was) in
     record {
       so_far = pushed ∙ lines_more c.args.layout rows c.loop-page.page _ _ seen.so_far line;
       valid = did.valid;

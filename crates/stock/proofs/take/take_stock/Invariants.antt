@@ -1,5 +1,5 @@
-use Rattle.std.proofs.Common.{◌≡◌, ℕ, vec_items}
-use Rattle.stock.specs.Lines.{lines_to, Seen}
+use Rattle.std.proofs.Common.{vec_items}
+use Rattle.stock.specs.Lines.{Seen}
 use Rattle.stock.proofs.take.take_stock.Given as goal
 
 abbrev pub invariant-loop-page : goal.invariant-loop-page

@@ -1,4 +1,4 @@
-use Rattle.std.proofs.Common.{◌≡◌, ◌<◌, set, Some, sym, refl, ap, ◌∙◌, subst, arith}
+use Rattle.std.proofs.Common.{◌<◌, set, Some, sym, refl, ap, ◌∙◌, subst, arith}
 use Rattle.std.proofs.lemmas.Bool.{true≢false}
 use Rattle.defects.specs.declared.mark.Defect.{Defect}
 use Rattle.defects.specs.Defects.{Marking, worst}
@@ -13,7 +13,7 @@ returns g c v =
     let d = c.args.defect in
     let there : page < g.D.Device.size c.args.self.now.below = omega (arith, c.count.ensures v) in
     let s = c.in-Some.ensures in
-    let worse = c.worse-mark-defect.ensures ∙ ap (λ o. worst o d) c.mark-of.ensures in
+    let worse = c.worse_mark-defect.ensures ∙ ap (λ o. worst o d) c.mark_of.ensures in
     record {
       answer = spot_accepts (g.D.Device.size c.args.self.now.below) ms page i there s;
       accepted = λ _. subst (λ (x : Defect). Marking ms page d (set ms i (Some (record { page = page; defect = x })))) (sym worse) (marking ms page i d s);

@@ -1,4 +1,4 @@
-use Rattle.std.proofs.Common.{◌≡◌, ◌<◌, length, sym, refl, ap, ◌∙◌, arith, rules}
+use Rattle.std.proofs.Common.{◌<◌, length, sym, ap, ◌∙◌, arith, rules}
 use Rattle.device.specs.Row.{read_at, filled_at}
 use Rattle.ends.specs.Bytes.{pages_in}
 use Rattle.ends.specs.Shapes.{archive_there}
@@ -15,5 +15,5 @@ returns c v =
       size = search rules;
       row = search rules;
       answer = ap read_at (sym e);
-      buffer = c.copy-page.ensures ∙ ap (λ o. filled_at o c.args.buffer.now) (sym e);
+      buffer = c.copy_page.ensures ∙ ap (λ o. filled_at o c.args.buffer.now) (sym e);
     }

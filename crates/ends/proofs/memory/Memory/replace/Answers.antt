@@ -1,4 +1,4 @@
-use Rattle.std.proofs.Common.{◌≡◌, ℕ, ◌+◌, ◌-◌, ◌*◌, ◌<◌, List, length, sym, refl, ap, ◌∙◌, arith, rules}
+use Rattle.std.proofs.Common.{◌≡◌, ℕ, ◌+◌, ◌-◌, ◌*◌, ◌<◌, List, length, sym, ap, ◌∙◌, arith, rules}
 use borrow.Rule.Slice.PartMut.{put_mid}
 use Rattle.device.specs.Row.{write_at}
 use Rattle.ends.specs.Bytes.{pages_in, memory_row, tail_of}
@@ -13,8 +13,8 @@ returns c =
     let h : page < pages_in (length bs) = omega arith in
     let w : (page * 512 + 512) - page * 512 ≡ 512 = omega arith in
     -- what the slice holds after the copy
-    let put : put_mid (page * 512) ((page * 512 + 512) - page * 512) bs c.copy-from-slice.new.self ≡ put_mid (page * 512) 512 bs c.args.bytes.now =
-    ap (λ n. put_mid (page * 512) n bs c.copy-from-slice.new.self) w ∙ ap (put_mid (page * 512) 512 bs) c.copy-from-slice.ensures.after in
+    let put : put_mid (page * 512) ((page * 512 + 512) - page * 512) bs c.copy_from_slice.new.self ≡ put_mid (page * 512) 512 bs c.args.bytes.now =
+    ap (λ n. put_mid (page * 512) n bs c.copy_from_slice.new.self) w ∙ ap (put_mid (page * 512) 512 bs) c.copy_from_slice.ensures.after in
     record {
       answer = ap write_at (sym (memory_there bs page h));
       len = search rules;

@@ -1,4 +1,4 @@
-use Rattle.std.proofs.Common.{◌≡◌, ◌<◌, length, sym, ap, ◌∙◌, arith, rules}
+use Rattle.std.proofs.Common.{◌<◌, length, sym, ap, ◌∙◌, arith, rules}
 use Rattle.device.specs.Row.{read_at, filled_at}
 use Rattle.ends.specs.Bytes.{pages_in}
 use Rattle.ends.specs.Shapes.{memory_there}
@@ -16,7 +16,7 @@ returns c =
         size = search rules;
         row = search rules;
         answer = ap read_at (sym there);
-        buffer = c.copy-out.ensures ∙ ap (λ o. filled_at o c.args.buffer.now) (sym there);
+        buffer = c.copy_out.ensures ∙ ap (λ o. filled_at o c.args.buffer.now) (sym there);
       };
       bytes = search rules;
       named = search rules;

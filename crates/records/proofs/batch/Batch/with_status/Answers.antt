@@ -14,9 +14,9 @@ pub returns : goal.returns
 returns c = record {
   bytes =
       placed c.args.status c.args.self _ _ _ _
-      (c.copy-from-slice.ensures.after ∙ c.to-le-bytes.ensures ∙ four_bytes c.args.self.number)
-      (c.copy-from-slice-2.ensures.after ∙ c.to-le-bytes-2.ensures ∙ four_bytes c.args.self.grocer)
-      (c.copy-from-slice-3.ensures.after ∙ c.to-le-bytes-3.ensures ∙ four_bytes c.args.self.coupons)
-      (c.copy-from-slice-4.ensures.after ∙ c.to-le-bytes-4.ensures ∙ eight_bytes c.args.self.face_value);
+      (c.copy_from_slice.ensures.after ∙ c.to_le_bytes.ensures ∙ four_bytes c.args.self.number)
+      (c.copy_from_slice-2.ensures.after ∙ c.to_le_bytes-2.ensures ∙ four_bytes c.args.self.grocer)
+      (c.copy_from_slice-3.ensures.after ∙ c.to_le_bytes-3.ensures ∙ four_bytes c.args.self.coupons)
+      (c.copy_from_slice-4.ensures.after ∙ c.to_le_bytes-4.ensures ∙ eight_bytes c.args.self.face_value);
   fits = search rules;
 }

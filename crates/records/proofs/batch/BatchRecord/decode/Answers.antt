@@ -12,24 +12,24 @@ read : (bs : List ℕ) → Bytes 32 bs → (x y : Status) → Ok x ≡ status_of
 unfolding batch_of
 read bs h = read_as batch_bytes Empty (Entered (batch_in bs)) (Settled (batch_in bs)) 20 bs (batch-only bs h)
 
-pub returns-in-err-status-at : goal.returns-in-err-status-at
+pub returns-in_err-status_at : goal.returns-in_err-status_at
 unfolding batch_of
-returns-in-err-status-at c = search rules
+returns-in_err-status_at c = search rules
 
 pub returns-in-Empty : goal.returns-in-Empty
 returns-in-Empty c =
     let h = bytes_from 32 c.args.bytes.now c.told-bytes c.fits-bytes in
-    let p = read c.args.bytes.now h _ status.Empty c.in-ok-status-at.ensures c.in-Empty.is Empty refl in
+    let p = read c.args.bytes.now h _ status.Empty c.in_ok-status_at.ensures c.in-Empty.is Empty refl in
     record { value = p.0; only = p.1 }
 
 pub returns-in-Entered : goal.returns-in-Entered
 returns-in-Entered c =
     let h = bytes_from 32 c.args.bytes.now c.told-bytes c.fits-bytes in
-    let p = read c.args.bytes.now h _ status.Entered c.in-ok-status-at.ensures c.in-Entered.is (Entered c.read-from.result) (ap (λ b. Ok (Entered b)) (sym c.read-from.ensures)) in
+    let p = read c.args.bytes.now h _ status.Entered c.in_ok-status_at.ensures c.in-Entered.is (Entered c.read_from.result) (ap (λ b. Ok (Entered b)) (sym c.read_from.ensures)) in
     record { value = p.0; only = p.1 }
 
 pub returns-in-Settled : goal.returns-in-Settled
 returns-in-Settled c =
     let h = bytes_from 32 c.args.bytes.now c.told-bytes c.fits-bytes in
-    let p = read c.args.bytes.now h _ status.Settled c.in-ok-status-at.ensures c.in-Settled.is (Settled c.read-from-in-Settled.result) (ap (λ b. Ok (Settled b)) (sym c.read-from-in-Settled.ensures)) in
+    let p = read c.args.bytes.now h _ status.Settled c.in_ok-status_at.ensures c.in-Settled.is (Settled c.read_from-in-Settled.result) (ap (λ b. Ok (Settled b)) (sym c.read_from-in-Settled.ensures)) in
     record { value = p.0; only = p.1 }

@@ -17,11 +17,11 @@ returns-in-Empty c = search rules
 pub returns-in-Entered : goal.returns-in-Entered
 unfolding batch_bytes
 returns-in-Entered c =
-    let h = written c.args.self.now (Entered c.in-Entered.batch) c.with-status.result c.in-Entered.is c.with-status.ensures.fits c.with-status.ensures.bytes in
+    let h = written c.args.self.now (Entered c.in-Entered.batch) c.with_status.result c.in-Entered.is c.with_status.ensures.fits c.with_status.ensures.bytes in
     record { bytes = h.0; back = h.1 }
 
 pub returns-in-Settled : goal.returns-in-Settled
 unfolding batch_bytes
 returns-in-Settled c =
-    let h = written c.args.self.now (Settled c.in-Settled.batch) c.with-status-in-Settled.result c.in-Settled.is c.with-status-in-Settled.ensures.fits c.with-status-in-Settled.ensures.bytes in
+    let h = written c.args.self.now (Settled c.in-Settled.batch) c.with_status-in-Settled.result c.in-Settled.is c.with_status-in-Settled.ensures.fits c.with_status-in-Settled.ensures.bytes in
     record { bytes = h.0; back = h.1 }

@@ -14,7 +14,7 @@ pub returns : goal.returns
 returns c = record {
   bytes =
       placed c.args.status c.args.self _ _
-      (c.copy-from-slice.ensures.after ∙ c.to-le-bytes.ensures ∙ four_bytes c.args.self.batch)
-      (c.copy-from-slice-2.ensures.after ∙ c.to-le-bytes-2.ensures ∙ eight_bytes c.args.self.amount);
+      (c.copy_from_slice.ensures.after ∙ c.to_le_bytes.ensures ∙ four_bytes c.args.self.batch)
+      (c.copy_from_slice-2.ensures.after ∙ c.to_le_bytes-2.ensures ∙ eight_bytes c.args.self.amount);
   fits = search rules;
 }

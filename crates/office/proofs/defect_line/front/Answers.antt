@@ -1,5 +1,0 @@
-use Rattle.office.proofs.Reading.{front_is}
-use Rattle.office.proofs.defect_line.front.Goals as goal
-
-pub returns : goal.returns
-returns c = front_is c.args.line.now c.args.suffix.now c.strip-suffix.result c.strip-suffix.ensures.cases
