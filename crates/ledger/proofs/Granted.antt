@@ -1,22 +1,20 @@
 -- What the calls of a pool leave, by its book.
-use Rattle.std.proofs.Common.{◌≡◌, ℕ, ◌+◌, ◌-◌, ◌<◌, ◌≤◌, Bool, true, false, cond, eqb, leb, ◌≢◌, ◌⊎◌, List, [], ◌∷◌, length, Some, None, Option, sym, refl, ap, ◌∙◌, subst, inl, inr, arith}
+use Rattle.std.proofs.Common.{◌≡◌, ℕ, ◌+◌, ◌-◌, ◌<◌, ◌≤◌, eqb, List, [], ◌∷◌, length, Some, None, Option, sym, refl, ap, ◌∙◌, inl, inr, arith}
 use Rattle.std.proofs.lemmas.Bool.{cases_eq, cond-true, cond-false, eq-eqb, ne_eqb, le-leb}
 use Rattle.page.specs.declared.refusal.Refusal.{Refusal}
-use Rattle.device.specs.Row.{Row}
 use Rattle.device.specs.declared.device.Device as device
 use Rattle.policy.specs.declared.policy.Policy as policy
-use Rattle.book.specs.Book.{Book, by_kind, put, granted, is_granted, first_no, refusal, accepted, decided, says, with_grants, with_pages}
-use Rattle.book.specs.Bytes.{bytes_at, patched}
+use Rattle.book.specs.Book.{Book, by_kind, put, granted, is_granted, first_no, refusal, accepted, decided, says, with_grants}
 use Rattle.book.specs.Call.{Call, Answer}
 use Rattle.book.specs.Call.Call.{Fix, Write, Unfix}
-use Rattle.book.specs.Call.Answer.{Granted, Done, Refused}
+use Rattle.book.specs.Call.Answer.{Granted, Refused}
 use Rattle.book.specs.declared.grant.Kind.{Kind}
 use Rattle.book.specs.declared.grant.Kind.TheVariants.{Reading, Updating}
 use Rattle.book.specs.declared.grant.Ticket.{Ticket}
 use Rattle.pool.specs.Did.{Did}
 use Rattle.pool.specs.Meaning.{book}
 use Rattle.pool.specs.declared.pool.Pool.{Pool}
-use Rattle.pool.proofs.Doings.{next-accepted, next-refused}
+use Rattle.pool.proofs.Doings.{next-accepted}
 use Rattle.pool.proofs.Granting.{grant-yes}
 use Rattle.pool.proofs.Working.{two-yes}
 

@@ -1,5 +1,5 @@
 -- A page that is read between a fix and its unfix.
-use Rattle.std.proofs.Common.{◌≡◌, ℕ, ◌+◌, ◌-◌, ◌≤◌, Bool, true, false, leb, List, [], ◌∷◌, length, take, drop, is_some, Some, None, Ok, Err, Option, Result, sym, refl, ap, ◌∙◌, subst, arith}
+use Rattle.std.proofs.Common.{◌≡◌, ℕ, ◌+◌, true, List, length, take, drop, is_some, Some, None, Ok, Err, Option, Result, sym, refl, ap, ◌∙◌, subst, arith}
 use Rattle.std.proofs.lemmas.List.{take_all}
 use Rattle.std.proofs.lemmas.Bool.{le-leb, lt-ltb, false≢true}
 use Rattle.page.specs.declared.refusal.Refusal.{Refusal}
@@ -7,7 +7,7 @@ use Rattle.device.specs.Row.{Page, sound, worn, lost, Row}
 use Rattle.device.specs.Shape.{Whole}
 use Rattle.device.specs.declared.device.Device as device
 use Rattle.policy.specs.declared.policy.Policy as policy
-use Rattle.book.specs.Book.{Book, is_granted, first_no, refusal, accepted, says, is_not_lost}
+use Rattle.book.specs.Book.{is_granted, refusal, is_not_lost}
 use Rattle.book.specs.Bytes.{bytes_at}
 use Rattle.book.specs.Call.{Answer}
 use Rattle.book.specs.Call.Call.{Fix, Read, Unfix}
@@ -26,7 +26,7 @@ use Rattle.pool.proofs.Asking.{lost-shown}
 use Rattle.pool.proofs.Doings.{says-accepted}
 use Rattle.pool.proofs.Working.{two-yes}
 use Rattle.ledger.specs.Reading.{Filled, DidReadPage}
-use Rattle.ledger.proofs.Granted.{Same, More, more, more-out, undone, fix-accepted, fix-refused, after-fix, after-refusal, after_unfix}
+use Rattle.ledger.proofs.Granted.{Same, more, more-out, undone, fix-accepted, fix-refused, after-fix, after-refusal, after_unfix}
 
 -- an accepted read answered yes, and its bytes are those copied
 copied_is : (r : Result (Unit {0}) Refusal) (new bytes : List ℕ) → copied r new ≡ Copied bytes → (r ≡ Ok tt) × (new ≡ bytes)

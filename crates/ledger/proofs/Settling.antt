@@ -1,10 +1,10 @@
 -- A settlement between two fixes and their unfixes.
-use Rattle.std.proofs.Common.{◌≡◌, ℕ, ◌+◌, ◌-◌, Some, None, Ok, Err, Option, Result, sym, refl, ap, ◌∙◌, subst}
+use Rattle.std.proofs.Common.{◌≡◌, ℕ, None, Ok, Err, Result, sym, refl, ap, ◌∙◌, subst}
 use Rattle.page.specs.declared.refusal.Refusal.{Refusal}
 use Rattle.device.specs.Row.{Row}
 use Rattle.device.specs.declared.device.Device as device
 use Rattle.policy.specs.declared.policy.Policy as policy
-use Rattle.book.specs.Book.{Book, with_pages, is_granted}
+use Rattle.book.specs.Book.{Book, is_granted}
 use Rattle.book.specs.Call.{Answer}
 use Rattle.book.specs.Call.Call.{Fix, Unfix}
 use Rattle.book.specs.Call.Answer.{Granted, Refused}
@@ -20,7 +20,7 @@ use Rattle.pool.specs.declared.pool.Pool.{Pool}
 use Rattle.ledger.specs.declared.fault.Fault.{Fault}
 use Rattle.ledger.specs.declared.spot.Spot.{Spot}
 use Rattle.ledger.specs.Pair.{DidPair}
-use Rattle.ledger.specs.Settled.{Open, Pages, DidSettle, SameGrants, settled_pages}
+use Rattle.ledger.specs.Settled.{Pages, DidSettle, SameGrants}
 use Rattle.ledger.proofs.Granted.{Same, More, more, more-out, more-still, undone, after-fix, after-refusal, after_unfix}
 
 module _ {D P : Type 0} (d : device.Ghosts D) (p : policy.Ghosts P) (number : ℕ) where

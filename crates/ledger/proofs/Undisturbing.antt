@@ -1,9 +1,8 @@
 -- Searches, one after another.
-use Rattle.std.proofs.Common.{◌≡◌, ℕ, Some, Err, Result, sym, refl, ap, ◌∙◌, subst}
+use Rattle.std.proofs.Common.{◌≡◌, ℕ, Some, Err, Result, refl, ◌∙◌, subst}
 use Rattle.device.specs.Row.{Row}
 use Rattle.device.specs.declared.device.Device as device
 use Rattle.policy.specs.declared.policy.Policy as policy
-use Rattle.book.specs.Bytes.{bytes_at}
 use Rattle.records.specs.declared.batch.Batch.{Batch}
 use Rattle.records.specs.declared.fee.Fee.{Fee}
 use Rattle.pool.specs.Meaning.{book}

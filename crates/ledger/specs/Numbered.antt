@@ -1,5 +1,5 @@
 -- Settling a batch by its number.
-use Rattle.std.specs.Prelude.{◌≡◌, ℕ, Result}
+use Rattle.std.specs.Prelude.{ℕ, Result}
 use Rattle.device.specs.declared.device.Device as device
 use Rattle.policy.specs.declared.policy.Policy as policy
 use Rattle.records.specs.declared.batch.Batch.{Batch}

@@ -7,14 +7,14 @@ loop-page-init g c s = at_rest g.D.Device g.P.Policy c.args.pool.now s
 pub loop-page-preserved : goal.loop-page-preserved
 loop-page-preserved g c s =
     let u = c.loop-page.invariant s in
-    both g.D.Device g.P.Policy c.args.pool.now c.loop-page.pool c.find-on.new.pool u (c.find-on.ensures u.sound).undisturbed
+    both g.D.Device g.P.Policy c.args.pool.now c.loop-page.pool c.find_on.new.pool u (c.find_on.ensures u.sound).undisturbed
 
 pub returns-in-Some : goal.returns-in-Some
 returns-in-Some g c s =
     let u = c.loop-page.invariant s in
     let f = c.in-Some.ensures u.sound in
     record {
-      undisturbed = both g.D.Device g.P.Policy c.args.pool.now c.loop-page.pool c.find-on.new.pool u f.undisturbed;
+      undisturbed = both g.D.Device g.P.Policy c.args.pool.now c.loop-page.pool c.find_on.new.pool u f.undisturbed;
       found = stood g.D.Device g.P.Policy c.args.pool.now c.loop-page.pool c.args.kept c.loop-page.page c.in-Some.place c.args.number u f.found;
     }
 

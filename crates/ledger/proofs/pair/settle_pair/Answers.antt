@@ -1,4 +1,4 @@
-use Rattle.std.proofs.Common.{◌≡◌, ℕ, ◌+◌, ◌*◌, ◌≤◌, List, length, None, sym, refl, ap, ◌∙◌, subst, arith}
+use Rattle.std.proofs.Common.{◌≡◌, ℕ, ◌+◌, ◌*◌, ◌≤◌, List, length, None, sym, ap, ◌∙◌, subst, arith}
 use Rattle.book.specs.Book.{Book, is_granted, accepted}
 use Rattle.book.specs.Call.Call.{Write}
 use Rattle.book.specs.declared.grant.Kind.TheVariants.{Updating}
@@ -22,17 +22,17 @@ returns g c s first second =
     let x = c.args.first.now in
     let y = c.args.second.now in
     let b = book d p pool in
-    let pair = c.in-ok-pair.ensures s first second in
+    let pair = c.in_ok-pair.ensures s first second in
     let bb = c.encode-batch.ensures.bytes in
     let fb = c.encode-fee.ensures.bytes in
     let w1 = c.write.ensures s in
-    let e1 = after_write d p pool mid x.mark x.page (c.args.batch-place * 32) c.encode-batch.result _ w1 first (within _ _ _ bb (batch_inverse.sized _).long pair.first) in
+    let e1 = after_write d p pool mid x.mark x.page (c.args.batch_place * 32) c.encode-batch.result _ w1 first (within _ _ _ bb (batch_inverse.sized _).long pair.first) in
     let G : Book → Type 0 = λ k. is_granted k Updating y.mark y.page ≡ None in
     let w2 = c.write-2.ensures w1.sound in
-    let e2 = after_write d p mid c.write-2.new.self y.mark y.page (c.args.fee-place * 32) c.encode-fee.result _ w2 (subst G (sym e1) second) (within _ _ _ fb (fee_inverse.sized _).long pair.second) in (
+    let e2 = after_write d p mid c.write-2.new.self y.mark y.page (c.args.fee_place * 32) c.encode-fee.result _ w2 (subst G (sym e1) second) (within _ _ _ fb (fee_inverse.sized _).long pair.second) in (
       w2.sound,
       pair.opens,
-      e2 ∙ ap (λ (k : Book). (accepted k (Write y.mark y.page (c.args.fee-place * 32) c.encode-fee.result)).1) e1
-          ∙ ap (λ (v : List ℕ). (accepted (accepted b (Write x.mark x.page (c.args.batch-place * 32) v)).1 (Write y.mark y.page (c.args.fee-place * 32) c.encode-fee.result)).1) bb
-          ∙ ap (λ (v : List ℕ). (accepted (accepted b (Write x.mark x.page (c.args.batch-place * 32) (batch_bytes (Settled c.in-ok-pair.pair.0)))).1 (Write y.mark y.page (c.args.fee-place * 32) v)).1) fb,
+      e2 ∙ ap (λ (k : Book). (accepted k (Write y.mark y.page (c.args.fee_place * 32) c.encode-fee.result)).1) e1
+          ∙ ap (λ (v : List ℕ). (accepted (accepted b (Write x.mark x.page (c.args.batch_place * 32) v)).1 (Write y.mark y.page (c.args.fee_place * 32) c.encode-fee.result)).1) bb
+          ∙ ap (λ (v : List ℕ). (accepted (accepted b (Write x.mark x.page (c.args.batch_place * 32) (batch_bytes (Settled c.in_ok-pair.pair.0)))).1 (Write y.mark y.page (c.args.fee_place * 32) v)).1) fb,
     )

@@ -1,4 +1,4 @@
-use Rattle.std.proofs.Common.{◌≡◌, None, sym, refl, ap, ◌∙◌, subst}
+use Rattle.std.proofs.Common.{◌≡◌, None, sym, subst}
 use Rattle.book.specs.Book.{is_granted}
 use Rattle.book.specs.declared.grant.Kind.TheVariants.{Updating}
 use Rattle.pool.specs.Did.{update_grant}
@@ -9,30 +9,30 @@ use Rattle.ledger.proofs.Settling.{first-refused, second-refused, between, first
 use Rattle.ledger.proofs.settlement.settle.Goals as goal
 
 pub returns-in-Err : goal.returns-in-Err
-returns-in-Err g c s = first-refused g.D.Device g.P.Policy c.args.number c.args.pool.now c.fix-update.new.self c.args.batch c.args.fee c.in-Err.refusal _ s (c.in-Err.ensures.did s)
+returns-in-Err g c s = first-refused g.D.Device g.P.Policy c.args.number c.args.pool.now c.fix_update.new.self c.args.batch c.args.fee c.in-Err.refusal _ s (c.in-Err.ensures.did s)
 
-pub returns-in-Err-fix-update : goal.returns-in-Err-fix-update
-returns-in-Err-fix-update g c s =
+pub returns-in-Err-fix_update : goal.returns-in-Err-fix_update
+returns-in-Err-fix_update g c s =
     let h1 = c.in-Ok.ensures.did s in
-    let h2 = c.in-Err-fix-update.ensures.did h1.sound in
-    second-refused g.D.Device g.P.Policy c.args.number c.args.pool.now c.fix-update.new.self c.fix-update-2.new.self c.unfix-update.new.self c.args.batch c.args.fee _ c.in-Ok.grant c.in-Err-fix-update.refusal _ _ c.in-Ok.ensures.grant h1 h2 (c.unfix-update.ensures h2.sound)
+    let h2 = c.in-Err-fix_update.ensures.did h1.sound in
+    second-refused g.D.Device g.P.Policy c.args.number c.args.pool.now c.fix_update.new.self c.fix_update-2.new.self c.unfix_update.new.self c.args.batch c.args.fee _ c.in-Ok.grant c.in-Err-fix_update.refusal _ _ c.in-Ok.ensures.grant h1 h2 (c.unfix_update.ensures h2.sound)
 
 pub returns : goal.returns
 returns g c s =
     let d = g.D.Device in
     let p = g.P.Policy in
     let pool = c.args.pool.now in
-    let one = c.fix-update.new.self in
-    let two = c.fix-update-2.new.self in
+    let one = c.fix_update.new.self in
+    let two = c.fix_update-2.new.self in
     let x = c.args.batch in
     let y = c.args.fee in
     let h1 = c.in-Ok.ensures.did s in
-    let h2 = c.in-Ok-fix-update.ensures.did h1.sound in
+    let h2 = c.in-Ok-fix_update.ensures.did h1.sound in
     let eg = c.in-Ok.ensures.grant in
-    let ek = c.in-Ok-fix-update.ensures.grant in
+    let ek = c.in-Ok-fix_update.ensures.grant in
     let w = between d p c.args.number pool one two x y _ _ h1 h2 in
     let A : UpdateGrant → Type 0 = λ k. is_granted (book d p two) Updating k.mark k.page ≡ None in
-    let pr = c.settle-pair-settled.ensures h2.sound (subst A (sym eg) (first_out d p c.args.number pool one two x y w)) (subst A (sym ek) (second-out d p c.args.number pool one two x y w)) in
-    let B : UpdateGrant → UpdateGrant → Type 0 = λ j k. DidPair d p c.args.number two (record { page = j.page; place = x.place }) (record { page = k.page; place = y.place }) c.settle-pair-settled.result c.settle-pair-settled.new.pool in
-    let pr2 = subst (λ j. B j c.in-Ok-fix-update.grant) eg pr in
-    settled d p c.args.number pool one two c.settle-pair-settled.new.pool c.unfix-update-2.new.self c.unfix-update-3.new.self x y c.in-Ok.grant c.in-Ok-fix-update.grant _ _ c.settle-pair-settled.result eg ek w h2.sound (subst (B (update_grant (book d p pool).mark x.page)) ek pr2) c.unfix-update-2.ensures c.unfix-update-3.ensures
+    let pr = c.settle_pair-settled.ensures h2.sound (subst A (sym eg) (first_out d p c.args.number pool one two x y w)) (subst A (sym ek) (second-out d p c.args.number pool one two x y w)) in
+    let B : UpdateGrant → UpdateGrant → Type 0 = λ j k. DidPair d p c.args.number two (record { page = j.page; place = x.place }) (record { page = k.page; place = y.place }) c.settle_pair-settled.result c.settle_pair-settled.new.pool in
+    let pr2 = subst (λ j. B j c.in-Ok-fix_update.grant) eg pr in
+    settled d p c.args.number pool one two c.settle_pair-settled.new.pool c.unfix_update-2.new.self c.unfix_update-3.new.self x y c.in-Ok.grant c.in-Ok-fix_update.grant _ _ c.settle_pair-settled.result eg ek w h2.sound (subst (B (update_grant (book d p pool).mark x.page)) ek pr2) c.unfix_update-2.ensures c.unfix_update-3.ensures
