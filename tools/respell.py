@@ -22,6 +22,8 @@ FIRST = {
     "crates/published/proofs/AtOnces.antt": {"same_kind": "same_kind_lem"},
     "crates/two_q/proofs/Tails.antt": {"tail_of": "tail_of_lem"},
 }
+# Fields of records, and lemmas that stand beside them, that two known words would leave with a dash.
+FIELDS = "hit-again held-choice not-lost not-worn batch-fits lost-page worn-page six-counts six-blocks near-blocks two-kept not-less not-counted self-counted".split()
 CAMEL = re.compile(r"[a-z][\w'-]*[a-z0-9][A-Z]")
 
 
@@ -80,7 +82,7 @@ def renaming(files):
         new = snake(n) if CAMEL.match(n) else n
         if "-" in new:
             parts = new.split("-")
-            if not all(a in known and len(a) > 2 for a in parts):
+            if n in FIELDS or not all(a in known and len(a) > 2 for a in parts):
                 new = "_".join(parts)
         if new != n:
             to[n] = new
@@ -96,7 +98,7 @@ def turn(line, to, fall):
         if new is None or prose and "-" in w:
             return w
         before = line[: m.start()]
-        if "-" in w and before.endswith("."):
+        if "-" in w and before.endswith(".") and w not in FIELDS:
             return w
         return fall.get(w, new)
 

@@ -82,8 +82,8 @@ fixed b kind page e =
     let q7 = first-yes ((ltb 0 (grants b page) || ltb (held b) b.bound) otherwise NoFrame) _ q6.1 in
     record {
       there = ltb-true _ _ (yes _ _ q2.0);
-      not-lost = q3.0;
-      not-worn = q4.0;
+      not_lost = q3.0;
+      not_worn = q4.0;
       time = ltb-true _ _ (yes _ _ q5.0);
       few = ltb-true _ _ (yes _ _ q6.0);
       frame = frame_or (grants b page) (held b) b.bound (yes _ _ q7.0);

@@ -73,12 +73,12 @@ proper-fix b kind page p e =
     there = p.shaped.exact page ∙ lt-ltb page b.size f.there
 
     read_at : (k : ℕ) (t : Bool) → eqb k page ≡ t → 0 < cond t (grants b k + 1) (grants b k) → readable (b.pages k) ≡ true
-    read_at k true g h = ap (λ k. readable (b.pages k)) (eqb-true k page g) ∙ readable-yes (b.pages page) there f.not-lost
+    read_at k true g h = ap (λ k. readable (b.pages k)) (eqb-true k page g) ∙ readable-yes (b.pages page) there f.not_lost
     read_at k false g h = p.readables k h
 
     sound_at : (k : ℕ) (kd : Kind) → kind ≡ kd → (t : Bool) → eqb k page ≡ t → 0 < by_kind kd b.updating (put b.updating page (granted b kd page + 1)) k → writable (b.pages k) ≡ true
     sound_at k Reading g t w h = p.sounds k h
-    sound_at k Updating g true w h = ap (λ k. writable (b.pages k)) (eqb-true k page w) ∙ writable-yes (b.pages page) there f.not-lost (subst (λ x. by_kind x None (is_not_worn (b.pages page)) ≡ None) g f.not-worn)
+    sound_at k Updating g true w h = ap (λ k. writable (b.pages k)) (eqb-true k page w) ∙ writable-yes (b.pages page) there f.not_lost (subst (λ x. by_kind x None (is_not_worn (b.pages page)) ≡ None) g f.not_worn)
     sound_at k Updating g false w h = p.sounds k (subst (λ n. 0 < n) (put_other b.updating page k _ w) h)
 
     few_at : (k : ℕ) (t : Bool) → eqb k page ≡ t → grants (changed b (Fix kind page)) k ≡ cond t (grants b k + 1) (grants b k) → grants (changed b (Fix kind page)) k ≤ 255

@@ -13,8 +13,8 @@ use Rattle.book.specs.Proper.{Proper}
 -- What each question of an accepted fix found.
 pub record Fixed (most : ℕ) (b : Book) (kind : Kind) (page : ℕ) : Type 0 where
   pub there : page < b.size
-  pub not-lost : is_not_lost (b.pages page) ≡ None
-  pub not-worn : by_kind kind None (is_not_worn (b.pages page)) ≡ None
+  pub not_lost : is_not_lost (b.pages page) ≡ None
+  pub not_worn : by_kind kind None (is_not_worn (b.pages page)) ≡ None
   pub time : b.clock < 4294967295
   pub few : grants b page < most
   pub frame : (0 < grants b page) ⊎ (held b < b.bound)

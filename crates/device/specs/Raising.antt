@@ -6,13 +6,13 @@ use Rattle.device.specs.Shape.{Whole}
 
 by_test : (a b x y : ℕ) → (a < b → x < y) → (x < y → a < b) → (t : Bool) → nat_lt a b ≡ t → t ≡ nat_lt x y
 by_test a b x y p q true e = sym (lt-ltb x y (p (ltb-true a b e)))
-by_test a b x y p q false e = sym (le-ltb x y (not-less x y (λ h. clash a b (q h) (ltb-false a b e))))
+by_test a b x y p q false e = sym (le-ltb x y (not_less x y (λ h. clash a b (q h) (ltb-false a b e))))
   where
     clash : (a b : ℕ) → a < b → b ≤ a → ⊥
     clash a b h l = omega arith
 
-    not-less : (x y : ℕ) → (x < y → ⊥) → y ≤ x
-    not-less x y f = omega arith
+    not_less : (x y : ℕ) → (x < y → ⊥) → y ≤ x
+    not_less x y f = omega arith
 
 -- two tests of which each follows from the other
 pub ltb-same : (a b x y : ℕ) → (a < b → x < y) → (x < y → a < b) → nat_lt a b ≡ nat_lt x y

@@ -59,7 +59,7 @@ module _ {D P : Type 0} (d : device.Ghosts D) (p : policy.Ghosts P) where
       let f = fixed (book d p pool) Reading page e in
       let shape = d.shaped pool.device s.below in
       let row = d.row pool.device page in
-      long-shown (held pool page) row (s.tied.stands page) (shape.whole page) (shape.exact page ∙ lt-ltb page (d.size pool.device) f.there) (sym (lost-shown (held pool page) row) ∙ f.not-lost)
+      long-shown (held pool page) row (s.tied.stands page) (shape.whole page) (shape.exact page ∙ lt-ltb page (d.size pool.device) f.there) (sym (lost-shown (held pool page) row) ∙ f.not_lost)
 
   -- the whole page is copied
   whole : (one : Pool D P) (t : Ticket) (old new : List ℕ) (r : Result (Unit {0}) Refusal) → is_granted (book d p one) t.kind t.mark t.page ≡ None → length old ≡ 512 → length (bytes_at ((book d p one).pages t.page)) ≡ 512 → DidCopy d p one t 0 old r new → (r ≡ Ok tt) × (new ≡ bytes_at ((book d p one).pages t.page))

@@ -37,13 +37,13 @@ count-take p zero xs = omega arith
 count-take p (suc n) [] = omega arith
 count-take p (suc n) (x ∷ xs) = let i = count-take p n xs in omega arith
 
-self-counted : (x n : ℕ) → cond (eqb x x) 1 0 + n ≡ 1 + n
-self-counted x n = ap (λ (b : Bool). cond b 1 0 + n) (eq-eqb x x refl)
+self_counted : (x n : ℕ) → cond (eqb x x) 1 0 + n ≡ 1 + n
+self_counted x n = ap (λ (b : Bool). cond b 1 0 + n) (eq-eqb x x refl)
 
 pub once-distinct : (xs : List ℕ) → ((p : ℕ) → count p xs ≤ 1) → distinct xs ≡ true
 once-distinct [] h = refl
 once-distinct (x ∷ xs) h =
-    let none : count x xs ≡ 0 = omega (arith, h x, self-counted x (count x xs)) in
+    let none : count x xs ≡ 0 = omega (arith, h x, self_counted x (count x xs)) in
     let rest = once-distinct xs (λ p. omega (arith, h p)) in
     ap (λ (b : Bool). cond b false (distinct xs)) (none-counted x xs none) ∙ rest
 
@@ -80,7 +80,7 @@ pub out_of : (frames n : ℕ) (s : State) (p : ℕ) → Sound frames n s → mem
 out_of frames n s p h away =
     let o = h.once p in
     by_bool (member p s.retained)
-    (λ m. let c = count-without p p s.retained m in let l = self-counted p (count p (without p s.retained)) in omega arith)
+    (λ m. let c = count-without p p s.retained m in let l = self_counted p (count p (without p s.retained)) in omega arith)
     (λ m. let c = count_none p s.retained m in let l = count_without_le p p s.retained in omega arith)
 
 -- a page that stands nowhere may come in

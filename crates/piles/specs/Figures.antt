@@ -27,8 +27,8 @@ pub record Figures (most : ℕ) : Type 0 where
   -- pages, and reading its page 0 gets refusal 3 with origin page 1, depth 1
   pub window_size_lem : window_size 1 5 3 ≡ 2
   pub window_lost : (bs : List ℕ) (ms : Marks) → length bs ≡ 1536 → mark_of ms 1 ≡ Some defect.Lost → read_at (window_row 1 5 (defect_row ms (memory_row bs)) 0) ≡ Err (LostPage (at 1 1))
-  pub lost-page : (o : Origin) → number_of (LostPage o) ≡ 3
-  pub worn-page : (o : Origin) → number_of (WornPage o) ≡ 4
+  pub lost_page : (o : Origin) → number_of (LostPage o) ≡ 3
+  pub worn_page : (o : Origin) → number_of (WornPage o) ≡ 4
   -- a mark that is better than the page below, equal to it, and worse
   pub better : (k : ℕ) (o : Origin) → marked (Some defect.Worn) k (lost o) ≡ lost o
   pub equal_worn : (k : ℕ) (o : Origin) (bs : List ℕ) → marked (Some defect.Worn) k (worn o bs) ≡ worn (at k 0) bs

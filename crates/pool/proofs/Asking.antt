@@ -26,8 +26,8 @@ first_some (Some s ∷ xs) ys r h = h
 -- What the first questions of a fix found.
 pub record Early (b : Book) (kind : Kind) (page : ℕ) : Type 0 where
   pub there : page < b.size
-  pub not-lost : is_not_lost (b.pages page) ≡ None
-  pub not-worn : by_kind kind None (is_not_worn (b.pages page)) ≡ None
+  pub not_lost : is_not_lost (b.pages page) ≡ None
+  pub not_worn : by_kind kind None (is_not_worn (b.pages page)) ≡ None
   pub time : b.clock < 4294967295
 
 pub early-found : (b : Book) (kind : Kind) (page : ℕ) → first_no (early b kind page) ≡ None → Early b kind page
@@ -35,7 +35,7 @@ early-found b kind page h =
     let q2 = first-yes _ _ h in
     let q3 = first-yes _ _ q2.1 in
     let q4 = first-yes _ _ q3.1 in
-    record { there = ltb-true page b.size (is-yes _ _ q2.0); not-lost = q3.0; not-worn = q4.0; time = ltb-true b.clock 4294967295 (is-yes _ _ (first-yes _ _ q4.1).0) }
+    record { there = ltb-true page b.size (is-yes _ _ q2.0); not_lost = q3.0; not_worn = q4.0; time = ltb-true b.clock 4294967295 (is-yes _ _ (first-yes _ _ q4.1).0) }
 
 -- A page that is in a frame is lost or worn as it is below.
 pub lost-shown : (f : Option Frame) (o : Option Page) → is_not_lost (shown f o) ≡ is_not_lost o

@@ -169,11 +169,11 @@ module _ (n : ℕ) (F : ℕ → Frame) (page : ℕ) (leaving : Option ℕ) (f : 
 
 -- A page that was just read stands in its frame, and shows as it is.
 pub read-stands : (kind : Kind) (page : ℕ) (f : Frame) (o : Option Page) (old : List ℕ) → f.slot ≡ fresh kind page → f.bytes ≡ filled_at o old → is_some o ≡ true → is_not_lost o ≡ None → by_kind kind None (is_not_worn o) ≡ None → Whole o → Stands (Some f) o
-read-stands kind page f None old e b some not-lost not-worn w = let z : ◌≡◌ {A = ℕ} 0 1 = cc in absurd (omega arith)
-read-stands kind page f (Some (sound bs)) old e b some not-lost not-worn w = (ap length b ∙ w, λ h. sym b)
-read-stands Reading page f (Some (worn x bs)) old e b some not-lost not-worn w = (ap length b ∙ w, (ap (λ (s : Slot). s.changed) e, ap (λ (s : Slot). s.updaters) e, sym b))
-read-stands Updating page f (Some (worn x bs)) old e b some not-lost not-worn w = let z : ◌≡◌ {A = ℕ} 0 1 = cc in absurd (omega arith)
-read-stands kind page f (Some (lost x)) old e b some not-lost not-worn w = let z : ◌≡◌ {A = ℕ} 0 1 = cc in absurd (omega arith)
+read-stands kind page f None old e b some not_lost not_worn w = let z : ◌≡◌ {A = ℕ} 0 1 = cc in absurd (omega arith)
+read-stands kind page f (Some (sound bs)) old e b some not_lost not_worn w = (ap length b ∙ w, λ h. sym b)
+read-stands Reading page f (Some (worn x bs)) old e b some not_lost not_worn w = (ap length b ∙ w, (ap (λ (s : Slot). s.changed) e, ap (λ (s : Slot). s.updaters) e, sym b))
+read-stands Updating page f (Some (worn x bs)) old e b some not_lost not_worn w = let z : ◌≡◌ {A = ℕ} 0 1 = cc in absurd (omega arith)
+read-stands kind page f (Some (lost x)) old e b some not_lost not_worn w = let z : ◌≡◌ {A = ℕ} 0 1 = cc in absurd (omega arith)
 
 pub read-shows : (f : Frame) (o : Option Page) (old : List ℕ) → f.bytes ≡ filled_at o old → shown (Some f) o ≡ o
 read-shows f None old b = refl

@@ -16,7 +16,7 @@ use Rattle.two_q.proofs.Pages.{none-moved, none-less}
 use Rattle.two_q.proofs.Reclaims.{Same}
 use Rattle.two_q.proofs.Sounds.{Sound, kept-sound, touched-sound, forgotten-sound, Leaves, admitted-sound}
 use Rattle.two_q.proofs.Tails.{member-counted, take-cut}
-use Rattle.two_q.specs.Once.{not-counted}
+use Rattle.two_q.specs.Once.{not_counted}
 use Rattle.turns.specs.Turns.{Course, outcome_of, after}
 use Rattle.published.specs.Fixings.{Fixing}
 use Rattle.published.specs.TwoQAmong.{nearest, none, off_ain, off_am, with, reclaim_among, access_among, came_to}
@@ -67,7 +67,7 @@ module _ (slots : ℕ) (q : Queues) (listed : List ℕ) (free : ℕ → Bool) (s
   from_ain y e =
       let c = member-counted y q.ain (nearest-member free q.ain y e) in
       let o = s.once y in
-      let away : member y q.am ≡ false = not-counted y q.am (omega arith) in
+      let away : member y q.am ≡ false = not_counted y q.am (omega arith) in
       record { out = refl; lists = gone-a1in m y away ∙ models refl refl (take-cut (Kout slots) (y ∷ q.aout) (let z = s.short in omega arith)) }
 
   from_am : (y : ℕ) → nearest free q.am ≡ Some y → Same slots m (Some y) (off_am q y)
@@ -184,7 +184,7 @@ module _ (slots : ℕ) (q : Queues) (f : Fixing) (t : ℕ) (listed : List ℕ) (
       (λ a. by_bool (member x q.ain)
       (λ i. let c = member-counted x q.ain i in
       let o = s.once x in
-      let w : member x q.aout ≡ false = not-counted x q.aout (omega arith) in
+      let w : member x q.aout ≡ false = not_counted x q.aout (omega arith) in
       by _ Hit _ (found q) (is_hit (rw a i)) (rw (a, w, i)) (did-hit q (models (sym (none-moved x q.am a)) refl refl)))
       (λ i. let away : resident n x ≡ false = rw a i in
       by_bool (member x q.aout)

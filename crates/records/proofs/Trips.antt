@@ -96,9 +96,9 @@ batch-held bs h = let l = h.long in record {
   face_value_fits = field_small bs h.under 12 8 (omega arith);
 }
 
-batch-fits : (bs : List ℕ) → Bytes 32 bs → (r : BatchRecord) → batch_of bs ≡ Ok r → BatchRecordFits r
+batch_fits : (bs : List ℕ) → Bytes 32 bs → (r : BatchRecord) → batch_of bs ≡ Ok r → BatchRecordFits r
 unfolding batch_of
-batch-fits bs h = read_by BatchRecordFits batch.Empty (batch.Entered (batch_in bs)) (batch.Settled (batch_in bs)) (get_or bs 20 0) (blank (drop 21 bs)) (blank bs) (λ z. tt) (λ e z. batch-held bs h) (λ e z. batch-held bs h)
+batch_fits bs h = read_by BatchRecordFits batch.Empty (batch.Entered (batch_in bs)) (batch.Settled (batch_in bs)) (get_or bs 20 0) (blank (drop 21 bs)) (blank bs) (λ z. tt) (λ e z. batch-held bs h) (λ e z. batch-held bs h)
 
 batch-long : (s : ℕ) (b : Batch) → s < 256 → Bytes 32 (batch_with s b)
 batch-long s b h =
@@ -114,11 +114,11 @@ batch-sized (batch.Entered b) = batch-long 1 b (lit< tt)
 batch-sized (batch.Settled b) = batch-long 2 b (lit< tt)
 
 pub batch_inverse : Inverse 32 BatchRecordFits batch_bytes batch_of
-batch_inverse = record { sized = batch-sized; back = batch-back; only = batch-only; fits = batch-fits }
+batch_inverse = record { sized = batch-sized; back = batch-back; only = batch-only; fits = batch_fits }
 
 -- Fees.
 fee_in_lem : (s : ℕ) (f : Fee) → FeeFits f → fee_in (fee_with s f) ≡ f
-fee_in_lem s f h = λ i. record { batch = number-bytes 4 f.batch h.batch-fits i; amount = number-bytes 8 f.amount h.amount_fits i }
+fee_in_lem s f h = λ i. record { batch = number-bytes 4 f.batch h.batch_fits i; amount = number-bytes 8 f.amount h.amount_fits i }
 
 pub fee-back : (r : FeeRecord) → FeeRecordFits r → fee_of (fee_bytes r) ≡ Ok r
 unfolding fee_bytes fee_of
@@ -137,7 +137,7 @@ unfolding fee_bytes fee_of
 fee-only bs h = read_by (λ r. fee_bytes r ≡ bs) fee.Empty (fee.Entered (fee_in bs)) (fee.Settled (fee_in bs)) (get_or bs 12 0) (blank (drop 13 bs)) (blank bs) (empty-zeros bs h) (fee-with bs h 1) (fee-with bs h 2)
 
 fee-held : (bs : List ℕ) → Bytes 32 bs → FeeFits (fee_in bs)
-fee-held bs h = let l = h.long in record { batch-fits = field_small bs h.under 0 4 (omega arith); amount_fits = field_small bs h.under 4 8 (omega arith) }
+fee-held bs h = let l = h.long in record { batch_fits = field_small bs h.under 0 4 (omega arith); amount_fits = field_small bs h.under 4 8 (omega arith) }
 
 fee-fits : (bs : List ℕ) → Bytes 32 bs → (r : FeeRecord) → fee_of bs ≡ Ok r → FeeRecordFits r
 unfolding fee_of

@@ -28,7 +28,7 @@ BatchRecordFits (batch.Settled b) = BatchFits b
 
 -- The numbers of a fee fit their widths.
 pub record FeeFits (f : Fee) : Type 0 where
-  pub batch-fits : f.batch < 2 ^ 32
+  pub batch_fits : f.batch < 2 ^ 32
   pub amount_fits : f.amount < 2 ^ 64
 
 abbrev pub FeeRecordFits : FeeRecord → Type 0

@@ -5,7 +5,7 @@ use Rattle.std.proofs.lemmas.Bool.Decides.{nat_tests}
 use Rattle.policy.specs.Sets.{member, Chosen, entered, grown}
 use Rattle.two_q.specs.Lists.{count, less, moved, or_else, nearest_tail}
 use Rattle.two_q.specs.Model.{Model, kin, resident, size, touched, chosen, forgotten, gone, come, admitted}
-use Rattle.two_q.specs.Once.{not-counted}
+use Rattle.two_q.specs.Once.{not_counted}
 use Rattle.two_q.proofs.Counts.{by_bool, length-less, length_moved, gone-bound}
 
 held-less : (p r : ℕ) (xs : List ℕ) → member p xs ≡ true → cond (eqb p r) true (member r (less p xs)) ≡ member r xs
@@ -25,7 +25,7 @@ touched-size m p = rw (length_moved p m.am)
 -- a page that stands at most once is out once it is taken out
 pub out_once : (p r : ℕ) (xs : List ℕ) → count r xs ≤ 1 → member r (less p xs) ≡ cond (eqb p r) false (member r xs)
 out_once p r [] h = grind (arith, nat_tests)
-out_once p r (x ∷ xs) h = let i = out_once p r xs in let z = not-counted r xs in grind (arith, nat_tests)
+out_once p r (x ∷ xs) h = let i = out_once p r xs in let z = not_counted r xs in grind (arith, nat_tests)
 
 -- a page that is chosen is in the list and listed
 tail-some : (l xs : List ℕ) (p : ℕ) → nearest_tail l xs ≡ Some p → (member p l ≡ true) × (member p xs ≡ true)
@@ -80,8 +80,8 @@ chosen-right m l =
 -- the leaving page goes out, and no other
 gone-resident : (m : Model) (q r : ℕ) → count r m.am + count r m.a1in ≤ 1 → resident m q ≡ true → resident (gone m (Some q)) r ≡ cond (eqb q r) false (resident m r)
 gone-resident m q r h e =
-    let a = not-counted r m.am in
-    let b = not-counted r m.a1in in
+    let a = not_counted r m.am in
+    let b = not_counted r m.a1in in
     let o = out_once q r m.am (omega arith) in
     let u = out_once q r m.a1in (omega arith) in
     by_bool (member q m.am) (λ t. rw t (grind (arith, nat_tests))) (λ t. let w : member q m.a1in ≡ true = rw t at e in rw t (grind (arith, nat_tests)))

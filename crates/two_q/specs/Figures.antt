@@ -24,9 +24,9 @@ pub record Figures (frames : ℕ) : Type 0 where
   pub then_2 : printed_run frames (1 ∷ 2 ∷ 3 ∷ 4 ∷ 5 ∷ 1 ∷ 6 ∷ 3 ∷ 2 ∷ []) ≡ ran (2 ∷ 3 ∷ 1 ∷ []) (6 ∷ []) (5 ∷ 4 ∷ []) (1 ∷ 2 ∷ 3 ∷ 4 ∷ 5 ∷ []) 0 9
   pub then_7 : printed_run frames (1 ∷ 2 ∷ 3 ∷ 4 ∷ 5 ∷ 1 ∷ 6 ∷ 3 ∷ 2 ∷ 7 ∷ []) ≡ ran (2 ∷ 3 ∷ []) (7 ∷ 6 ∷ []) (5 ∷ 4 ∷ []) (1 ∷ 2 ∷ 3 ∷ 4 ∷ 5 ∷ 1 ∷ []) 0 10
   -- a page of Am and one of A1in asked for again: two hits, and only Am is altered
-  pub hit-again : printed_run frames (1 ∷ 2 ∷ 3 ∷ 4 ∷ 5 ∷ 1 ∷ 6 ∷ 3 ∷ 1 ∷ 6 ∷ []) ≡ ran (1 ∷ 3 ∷ []) (6 ∷ 5 ∷ []) (4 ∷ 2 ∷ []) (1 ∷ 2 ∷ 3 ∷ 4 ∷ []) 2 8
+  pub hit_again : printed_run frames (1 ∷ 2 ∷ 3 ∷ 4 ∷ 5 ∷ 1 ∷ 6 ∷ 3 ∷ 1 ∷ 6 ∷ []) ≡ ran (1 ∷ 3 ∷ []) (6 ∷ 5 ∷ []) (4 ∷ 2 ∷ []) (1 ∷ 2 ∷ 3 ∷ 4 ∷ []) 2 8
   -- with 1, 3 and 2 held only 6 is listed, and leaves for 7
-  pub held-choice : chosen (holding frames) (6 ∷ []) ≡ Some 6
+  pub held_choice : chosen (holding frames) (6 ∷ []) ≡ Some 6
   pub held_7 : admitted (holding frames) 7 (Some 6) ≡ record { bound = frames; am = 2 ∷ 3 ∷ 1 ∷ []; a1in = 7 ∷ []; a1out = 6 ∷ 5 ∷ [] }
   -- 3 and 65 are no frame counts, and get refusal 1
   pub count_3 : (r : Result FrameCount Refusal) → MatchResult r (λ f. InRange 3 × (f.value ≡ 3)) (λ e. OutOfRange 3 × (e ≡ refusal.FrameCount)) → r ≡ Err refusal.FrameCount

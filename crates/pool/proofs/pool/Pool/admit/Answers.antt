@@ -44,8 +44,8 @@ returns g c r clean =
     let cm = come n F i q f n' F' once r.absent comes c.load.ensures.frames c.load.ensures.used bound leaving r.vacant.place in
     let left = leaver n F bound i leaving once r.vacant.place clean in
     let some : is_some (row q) ≡ true = shape.exact q ∙ lt-ltb q (d.size pool.device) asked.there in
-    let not-lost : is_not_lost (row q) ≡ None = sym (lost-shown (at n F q) (row q)) ∙ asked.not-lost in
-    let not-worn : by_kind kind None (is_not_worn (row q)) ≡ None = ap (by_kind kind None) (sym (worn-shown (at n F q) (row q))) ∙ asked.not-worn in
+    let not_lost : is_not_lost (row q) ≡ None = sym (lost-shown (at n F q) (row q)) ∙ asked.not_lost in
+    let not_worn : by_kind kind None (is_not_worn (row q)) ≡ None = ap (by_kind kind None) (sym (worn-shown (at n F q) (row q))) ∙ asked.not_worn in
     let gone : (k : ℕ) → leaving ≡ Some k → res k ≡ true = λ k l. s.tied.same k ∙ ap is_some (left k l).at in
     let away : res q ≡ false = s.tied.same q ∙ ap is_some none in
     let ok : c.admit.result ≡ true = c.admit.ensures.answer ∙ enters res (p.size m) bound q leaving away (λ e. (let z = room_for n F bound i leaving r.vacant.place e in omega (arith, z, s.tied.filled))) gone in
@@ -54,7 +54,7 @@ returns g c r clean =
       took = record {
         sound = record {
           below = w.valid;
-          tied = come-tied n F q leaving f n' F' cm r.absent left row row' res _ _ _ s.tied (read-stands kind q f (row q) _ did.slot w.buffer some not-lost not-worn (shape.whole q)) w.row (c.admit.ensures.resident ok) (c.admit.ensures.size ok);
+          tied = come-tied n F q leaving f n' F' cm r.absent left row row' res _ _ _ s.tied (read-stands kind q f (row q) _ did.slot w.buffer some not_lost not_worn (shape.whole q)) w.row (c.admit.ensures.resident ok) (c.admit.ensures.size ok);
           counts = omega (arith, count, r.time, s.counts);
         };
         next = same-book _ _ w.size c.admit.ensures.bound refl refl
