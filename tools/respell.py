@@ -24,6 +24,8 @@ FIRST = {
 }
 # Fields of records, and lemmas that stand beside them, that two known words would leave with a dash.
 FIELDS = "hit-again held-choice not-lost not-worn batch-fits lost-page worn-page six-counts six-blocks near-blocks two-kept not-less not-counted self-counted".split()
+# Names that a file gives to an import by `as`; a module's is in upper camel case.
+ALIASES = {n: None for n in "fitsIn hitsIn idleIn insteadOf isCandidate isOutside lesserOf pinsIn unpinnedOf frameAt freshOf pinnedOf leavingOf".split()} | {"batchRecord": "BatchVariants", "feeRecord": "FeeVariants"}
 CAMEL = re.compile(r"[a-z][\w'-]*[a-z0-9][A-Z]")
 
 
@@ -76,6 +78,8 @@ def renaming(files):
     found, made = definitions(files)
     known = {snake(n) for n in found if "-" not in n} | library()
     to = {}
+    for n, new in ALIASES.items():
+        to[n] = new or snake(n)
     for n in set(found) | locals_in(files):
         if n in made or not re.match(r"[a-z]", n):
             continue

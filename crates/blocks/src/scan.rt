@@ -2,7 +2,7 @@
 ghost use Rattle.std.specs.Prelude.{◌≡◌, None};
 ghost use Rattle.policy.specs.Sets.{member};
 ghost use Rattle.blocks.specs.First.{FirstAmong};
-ghost use Rattle.blocks.specs.Blocks.{outside as isOutside, refreshed, before, candidate as isCandidate, lesser as lesserOf, scanned};
+ghost use Rattle.blocks.specs.Blocks.{outside as is_outside, refreshed, before, candidate as is_candidate, lesser as lesser_of, scanned};
 
 use crate::block::Block;
 use recency::place_of;
@@ -10,7 +10,7 @@ use recency::place_of;
 impl Block {
     // Whether the page is outside its correlated reference period at a time.
     fn outside(self, t: u32, crp: u16) -> bool
-        ensures { result ≡ isOutside crp t self }
+        ensures { result ≡ is_outside crp t self }
     {
         t.saturating_sub(self.last) > crp as u32
     }
@@ -58,7 +58,7 @@ fn lists(list: &[u32], page: u32) -> bool
 
 // Whether a page may leave: it is listed and, where a period is given, outside it.
 fn candidate(block: Block, listed: &[u32], period: Option<u16>, t: u32) -> bool
-    ensures { result ≡ isCandidate listed.now period t block }
+    ensures { result ≡ is_candidate listed.now period t block }
 {
     if !lists(listed, block.page) {
         return false;
@@ -71,7 +71,7 @@ fn candidate(block: Block, listed: &[u32], period: Option<u16>, t: u32) -> bool
 
 // Of the best block so far, if any, and another, the one that is to leave first.
 fn lesser(best: Option<Block>, block: Block) -> Block
-    ensures { result ≡ lesserOf best block }
+    ensures { result ≡ lesser_of best block }
 {
     match best {
         Some(other) => {
@@ -91,8 +91,8 @@ pub fn first_to_leave(
     period: Option<u16>,
     t: u32,
 ) -> Option<Block>
-    ensures first { FirstAmong blocks.now (isCandidate listed.now period t) result }
-    ensures value { result ≡ scanned (isCandidate listed.now period t) None blocks.now }
+    ensures first { FirstAmong blocks.now (is_candidate listed.now period t) result }
+    ensures value { result ≡ scanned (is_candidate listed.now period t) None blocks.now }
 {
     let mut best = None;
     for block in blocks {

@@ -1,7 +1,7 @@
 ghost use Rattle.std.specs.Prelude.{◌≡◌, ℕ, ◌+◌, max, cond, []};
 ghost use Rattle.device.specs.Calls.{DidWrite};
 ghost use Rattle.frames.specs.Calls.{DidLoad, DidStore};
-ghost use Rattle.frames.specs.Table.{frame as frame_at, pinned as pinned_of, unpinned as unpinnedOf, with, with_slot};
+ghost use Rattle.frames.specs.Table.{frame as frame_at, pinned as pinned_of, unpinned as unpinned_of, with, with_slot};
 
 use crate::frames::Frames;
 use crate::place::Place;
@@ -23,7 +23,7 @@ impl Frames {
     // One grant of a kind less.
     pub fn unpin(&mut self, place: Place, kind: Kind)
         ensures used { self.new.used ≡ self.old.used }
-        ensures frames { (j : ℕ) → frame_at self.new j ≡ with (frame_at self.old) place.index (with_slot (frame_at self.old place.index) (unpinnedOf kind (frame_at self.old place.index).slot)) j }
+        ensures frames { (j : ℕ) → frame_at self.new j ≡ with (frame_at self.old) place.index (with_slot (frame_at self.old place.index) (unpinned_of kind (frame_at self.old place.index).slot)) j }
     {
         let slot = self.slots[place.index];
         self.slots[place.index] = slot.unpinned(kind);

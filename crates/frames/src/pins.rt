@@ -1,5 +1,5 @@
 ghost use Rattle.std.specs.Prelude.{◌≡◌, nat_le};
-ghost use Rattle.frames.specs.Table.{fresh as fresh_of, pinned as pinned_of, pins as pinsIn, pins_of, unpinned as unpinnedOf};
+ghost use Rattle.frames.specs.Table.{fresh as fresh_of, pinned as pinned_of, pins as pins_in, pins_of, unpinned as unpinned_of};
 
 use crate::slot::Slot;
 use book::Kind;
@@ -24,7 +24,7 @@ impl Slot {
 
     // How many grants are out, of both kinds.
     pub fn pins(self) -> u32
-        ensures { result ≡ pinsIn self }
+        ensures { result ≡ pins_in self }
     {
         self.readers as u32 + self.updaters as u32
     }
@@ -41,7 +41,7 @@ impl Slot {
 
     // Whether no grant is out.
     pub(crate) fn is_idle(self) -> bool
-        ensures { result ≡ nat_le (pinsIn self) 0 }
+        ensures { result ≡ nat_le (pins_in self) 0 }
     {
         self.pins() <= 0
     }
@@ -60,7 +60,7 @@ impl Slot {
 
     // One grant of a kind less, if there is one.
     pub(crate) fn unpinned(self, kind: Kind) -> Slot
-        ensures { result ≡ unpinnedOf kind self }
+        ensures { result ≡ unpinned_of kind self }
     {
         let mut slot = self;
         match kind {

@@ -1,6 +1,6 @@
 ghost use Rattle.std.specs.Prelude.{◌≡◌, ◌≤◌, take};
 ghost use Rattle.frames.specs.Calls.{Found, Nth, Spare};
-ghost use Rattle.frames.specs.Table.{frame as frame_at, idle as idleIn};
+ghost use Rattle.frames.specs.Table.{frame as frame_at, idle as idle_in};
 
 use crate::frames::Frames;
 use crate::place::Place;
@@ -34,7 +34,7 @@ impl Frames {
     // Writes the pages with no grant out into a list, and answers how many there are.
     pub fn idle(&self, list: &mut [u32; 64]) -> usize
         ensures count { result ≤ 64 }
-        ensures pages { take result list.new ≡ idleIn self.now.used (frame_at self.now) }
+        ensures pages { take result list.new ≡ idle_in self.now.used (frame_at self.now) }
     {
         let mut n = 0;
         for i in 0..self.used {

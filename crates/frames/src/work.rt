@@ -1,6 +1,6 @@
 ghost use Rattle.std.specs.Prelude.{◌≡◌, ℕ, ◌+◌, ◌≤◌, false, length, is_ok};
 ghost use Rattle.book.specs.Bytes.{patched};
-ghost use Rattle.frames.specs.Calls.{fits as fitsIn, copied, overwritten};
+ghost use Rattle.frames.specs.Calls.{fits as fits_in, copied, overwritten};
 ghost use Rattle.frames.specs.Table.{frame as frame_at, with};
 
 use crate::frames::Frames;
@@ -10,7 +10,7 @@ use page::Refusal;
 
 // Do bytes from an offset on stay within a page?
 fn fits(offset: usize, len: usize) -> Result<(), Refusal>
-    ensures { result ≡ fitsIn offset len }
+    ensures { result ≡ fits_in offset len }
 {
     if offset > 512 || len > 512 - offset {
         return Err(Refusal::PastPageEnd);
@@ -55,7 +55,7 @@ impl Frames {
 
     // Copies bytes from an offset on over the whole of a buffer.
     pub fn read(&self, place: Place, offset: usize, buffer: &mut [u8]) -> Result<(), Refusal>
-        ensures answer { result ≡ fitsIn offset (length buffer.old) }
+        ensures answer { result ≡ fits_in offset (length buffer.old) }
         ensures buffer { buffer.new ≡ copied (frame_at self.now place.index) offset buffer.old }
     {
         fits(offset, buffer.len())?;
@@ -66,7 +66,7 @@ impl Frames {
 
     // Replaces bytes from an offset on; the page is changed then, unless there were none.
     pub fn write(&mut self, place: Place, offset: usize, bytes: &[u8]) -> Result<(), Refusal>
-        ensures answer { result ≡ fitsIn offset (length bytes.now) }
+        ensures answer { result ≡ fits_in offset (length bytes.now) }
         ensures refused { is_ok result ≡ false → self.new ≡ self.old }
         ensures used { self.new.used ≡ self.old.used }
         ensures frames { (j : ℕ) → frame_at self.new j ≡ with (frame_at self.old) place.index (overwritten (frame_at self.old place.index) offset bytes.now) j }

@@ -2,8 +2,8 @@ ghost use Rattle.std.specs.Prelude.{◌≡◌, ◌≤◌, IfOk, None, Ok, OnOk};
 ghost use Rattle.book.specs.Book.{is_granted};
 ghost use Rattle.book.specs.declared.grant.Kind.TheVariants.{Updating};
 ghost use Rattle.records.specs.Layout.{batch_of, fee_of};
-ghost use Rattle.records.specs.declared.batch.BatchRecord.TheVariants as batchRecord;
-ghost use Rattle.records.specs.declared.fee.FeeRecord.TheVariants as feeRecord;
+ghost use Rattle.records.specs.declared.batch.BatchRecord.TheVariants as BatchVariants;
+ghost use Rattle.records.specs.declared.fee.FeeRecord.TheVariants as FeeVariants;
 ghost use Rattle.pool.specs.Meaning.{book};
 ghost use Rattle.pool.specs.Sound.{Sound};
 ghost use Rattle.ledger.specs.Pair.{DidLook, DidOpenPair, DidPair};
@@ -31,7 +31,7 @@ fn look<D: Device, P: Policy>(
 
 // The batch that is entered in 32 bytes.
 fn entered_batch(page: u32, bytes: &[u8; 32]) -> Result<Batch, Fault>
-    ensures { IfOk result (λ b. batch_of bytes.now ≡ Ok (batchRecord.Entered b)) }
+    ensures { IfOk result (λ b. batch_of bytes.now ≡ Ok (BatchVariants.Entered b)) }
 {
     match BatchRecord::decode(bytes) {
         Ok(BatchRecord::Entered(batch)) => Ok(batch),
@@ -43,7 +43,7 @@ fn entered_batch(page: u32, bytes: &[u8; 32]) -> Result<Batch, Fault>
 
 // The fee that is entered in 32 bytes.
 fn entered_fee(page: u32, bytes: &[u8; 32]) -> Result<Fee, Fault>
-    ensures { IfOk result (λ f. fee_of bytes.now ≡ Ok (feeRecord.Entered f)) }
+    ensures { IfOk result (λ f. fee_of bytes.now ≡ Ok (FeeVariants.Entered f)) }
 {
     match FeeRecord::decode(bytes) {
         Ok(FeeRecord::Entered(fee)) => Ok(fee),

@@ -1,6 +1,6 @@
 ghost use Rattle.std.specs.Prelude.{◌≡◌, ◌<◌, [], length, None};
 ghost use Rattle.policy.specs.Held.{pages_of};
-ghost use Rattle.policy.specs.Runs.{instead as insteadOf, replaced, swapped};
+ghost use Rattle.policy.specs.Runs.{instead as instead_of, replaced, swapped};
 
 use crate::held::Held;
 
@@ -37,7 +37,7 @@ impl Held {
 
 // What stands in a frame once a page has come for another.
 fn instead(old: u32, gone: u32, page: u32) -> u32
-    ensures { result ≡ insteadOf gone page old }
+    ensures { result ≡ instead_of gone page old }
 {
     if old == gone { page } else { old }
 }

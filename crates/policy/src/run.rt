@@ -1,6 +1,6 @@
 ghost use Rattle.std.specs.Prelude.{◌≡◌, ◌<◌, ◌≤◌, length};
 ghost use Rattle.policy.specs.Held.{pages_of};
-ghost use Rattle.policy.specs.Runs.{Turn, turn, leaving as leaving_of, hit_by, hits as hitsIn, DidRun, Standing};
+ghost use Rattle.policy.specs.Runs.{Turn, turn, leaving as leaving_of, hit_by, hits as hits_in, DidRun, Standing};
 ghost use Rattle.policy.specs.Sets.{Chosen};
 
 use crate::held::Held;
@@ -47,7 +47,7 @@ fn is_hit(outcome: Outcome) -> bool
 // How many references were hits.
 fn count_hits(outcomes: &[Outcome]) -> u32
     requires { length outcomes.now < 4294967296 }
-    ensures value { result ≡ hitsIn outcomes.now }
+    ensures value { result ≡ hits_in outcomes.now }
     ensures few { result ≤ length outcomes.now }
 {
     let mut hits = 0;

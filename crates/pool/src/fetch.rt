@@ -1,6 +1,6 @@
 ghost use Rattle.std.specs.Prelude.{◌≡◌, ℕ, ◌+◌, ◌<◌, None};
 ghost use Rattle.book.specs.Book.{first_no};
-ghost use Rattle.frames.specs.Table.{frame as frame_at, page_in, pins as pinsIn};
+ghost use Rattle.frames.specs.Table.{frame as frame_at, page_in, pins as pins_in};
 ghost use Rattle.pool.specs.Meaning.{book as book_of};
 ghost use Rattle.pool.specs.Sound.{Sound};
 ghost use Rattle.pool.specs.Steps.{Clean, DidAdmit, DidBack, DidEvict, DidTake, Fetchable, Room, Vacant, early};
@@ -48,7 +48,7 @@ impl<D: Device, P: Policy> Pool<D, P> {
 
     // One grant more for a page that is in a frame.
     pub(crate) fn take(&mut self, kind: Kind, place: Place, page: u32, t: u32)
-        ensures { Sound D.Device P.Policy self.old → first_no (early (book_of D.Device P.Policy self.old) kind page) ≡ None → place.index < self.old.frames.used → page_in (frame_at self.old.frames place.index) ≡ page → pinsIn (frame_at self.old.frames place.index).slot < 255 → t ≡ self.old.clock + 1 → DidTake D.Device P.Policy self.old kind page t self.new }
+        ensures { Sound D.Device P.Policy self.old → first_no (early (book_of D.Device P.Policy self.old) kind page) ≡ None → place.index < self.old.frames.used → page_in (frame_at self.old.frames place.index) ≡ page → pins_in (frame_at self.old.frames place.index).slot < 255 → t ≡ self.old.clock + 1 → DidTake D.Device P.Policy self.old kind page t self.new }
     {
         let _ = self.policy.hit(page, t);
         self.frames.pin(place, kind);
