@@ -41,11 +41,11 @@ abbrev pub copied : Frame → ℕ → List ℕ → List ℕ
 copied f offset old = if_ok (fits offset (length old)) (take (length old) (drop offset f.bytes)) old
 
 -- A frame after a write to it. No bytes make no change.
-abbrev pub is_none : List ℕ → Bool
-is_none new = nat_le (length new) 0
+abbrev pub no_bytes : List ℕ → Bool
+no_bytes new = nat_le (length new) 0
 
 abbrev pub changed_by : Frame → ℕ → List ℕ → Frame
-changed_by f offset new = cond (is_none new) f (record { slot = marked true f.slot; bytes = patched offset new f.bytes })
+changed_by f offset new = cond (no_bytes new) f (record { slot = marked true f.slot; bytes = patched offset new f.bytes })
 
 abbrev pub overwritten : Frame → ℕ → List ℕ → Frame
 overwritten f offset new = if_ok (fits offset (length new)) (changed_by f offset new) f

@@ -17,7 +17,7 @@ use Rattle.book.specs.declared.grant.Kind.{Kind}
 use Rattle.book.specs.declared.grant.Kind.TheVariants.{Reading, Updating}
 use Rattle.book.specs.declared.grant.Ticket.{Ticket}
 use Rattle.book.proofs.Pages.{patched-long}
-use Rattle.frames.specs.Calls.{fits, if_ok, is_none, changed_by, overwritten}
+use Rattle.frames.specs.Calls.{fits, if_ok, no_bytes, changed_by, overwritten}
 use Rattle.frames.specs.Calls.{copied as taken}
 use Rattle.frames.specs.declared.frames.Frames.{Frames}
 use Rattle.frames.specs.Table.{Frame, frame, at, page_in, pins_of, marked, unpinned, with_pins, with, with_slot}
@@ -144,9 +144,9 @@ record Wrote (f : Frame) (offset : ℕ) (new : List ℕ) (o : Option Page) (f' :
   updaters : f'.slot.updaters ≡ f.slot.updaters
 
 wrote : (f : Frame) (offset : ℕ) (new : List ℕ) (o : Option Page) → offset + length new ≤ 512 → 0 < f.slot.updaters → Stands (Some f) o → Wrote f offset new o (changed_by f offset new)
-wrote f offset new o fit l x = go (is_none new) refl
+wrote f offset new o fit l x = go (no_bytes new) refl
   where
-    go : (t : Bool) → is_none new ≡ t → Wrote f offset new o (cond t f (record { slot = marked true f.slot; bytes = patched offset new f.bytes }))
+    go : (t : Bool) → no_bytes new ≡ t → Wrote f offset new o (cond t f (record { slot = marked true f.slot; bytes = patched offset new f.bytes }))
     go true e = (let z : length new ≤ 0 = leb-true (length new) 0 e in record { stands = x; page = refl; bytes = sym (patched-none offset new f.bytes (omega arith)); readers = refl; updaters = refl })
     go false e = record { stands = changed-stands f o (patched offset new f.bytes) l (patched-long offset new f.bytes fit (long f o x)) x; page = refl; bytes = refl; readers = refl; updaters = refl }
 
