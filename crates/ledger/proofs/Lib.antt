@@ -1,4 +1,6 @@
+pub mod Answering
 pub mod Granted
+pub mod Opening
 pub mod Readings
 pub mod Settling
 pub mod Undisturbing

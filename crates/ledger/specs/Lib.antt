@@ -1,3 +1,4 @@
+pub mod Answered
 pub mod Finding
 pub mod Numbered
 pub mod Pair

@@ -1,12 +1,11 @@
-ghost use Rattle.std.specs.Prelude.{◌≡◌, ◌≤◌, IfOk, None, Ok, OnOk};
+ghost use Rattle.std.specs.Prelude.{◌≡◌, None};
 ghost use Rattle.book.specs.Book.{is_granted};
 ghost use Rattle.book.specs.declared.grant.Kind.TheVariants.{Updating};
 ghost use Rattle.records.specs.Layout.{batch_of, fee_of};
-ghost use Rattle.records.specs.declared.batch.BatchRecord.TheVariants as BatchVariants;
-ghost use Rattle.records.specs.declared.fee.FeeRecord.TheVariants as FeeVariants;
 ghost use Rattle.pool.specs.Meaning.{book};
 ghost use Rattle.pool.specs.Sound.{Sound};
-ghost use Rattle.ledger.specs.Pair.{DidLook, DidOpenPair, DidPair};
+ghost use Rattle.ledger.specs.Answered.{fitting, open_batch, open_fee, open_pair as pair_of, seen_at};
+ghost use Rattle.ledger.specs.Pair.{DidPair};
 
 use crate::fault::Fault;
 use device::Device;
@@ -20,7 +19,7 @@ fn look<D: Device, P: Policy>(
     grant: &UpdateGrant,
     place: u8,
 ) -> Result<[u8; 32], Fault>
-    ensures { Sound D.Device P.Policy pool.now → is_granted (book D.Device P.Policy pool.now) Updating grant.now.mark grant.now.page ≡ None → DidLook (book D.Device P.Policy pool.now).pages grant.now.page place result }
+    ensures { Sound D.Device P.Policy pool.now → is_granted (book D.Device P.Policy pool.now) Updating grant.now.mark grant.now.page ≡ None → result ≡ seen_at (book D.Device P.Policy pool.now).pages grant.now.page place }
 {
     let mut bytes = [0; 32];
     match pool.read_update(grant, place as usize * 32, &mut bytes) {
@@ -31,7 +30,7 @@ fn look<D: Device, P: Policy>(
 
 // The batch that is entered in 32 bytes.
 fn entered_batch(page: u32, bytes: &[u8; 32]) -> Result<Batch, Fault>
-    ensures { IfOk result (λ b. batch_of bytes.now ≡ Ok (BatchVariants.Entered b)) }
+    ensures { result ≡ open_batch page (batch_of bytes.now) }
 {
     match BatchRecord::decode(bytes) {
         Ok(BatchRecord::Entered(batch)) => Ok(batch),
@@ -43,7 +42,7 @@ fn entered_batch(page: u32, bytes: &[u8; 32]) -> Result<Batch, Fault>
 
 // The fee that is entered in 32 bytes.
 fn entered_fee(page: u32, bytes: &[u8; 32]) -> Result<Fee, Fault>
-    ensures { IfOk result (λ f. fee_of bytes.now ≡ Ok (FeeVariants.Entered f)) }
+    ensures { result ≡ open_fee page (fee_of bytes.now) }
 {
     match FeeRecord::decode(bytes) {
         Ok(FeeRecord::Entered(fee)) => Ok(fee),
@@ -55,7 +54,7 @@ fn entered_fee(page: u32, bytes: &[u8; 32]) -> Result<Fee, Fault>
 
 // Whether a batch has the number, and the fee fits it.
 fn fits(number: u32, batch: Batch, fee: Fee) -> Result<(), Fault>
-    ensures { OnOk result ((batch.number ≡ number) × (fee.batch ≡ batch.number) × (fee.amount ≤ batch.face_value)) }
+    ensures { result ≡ fitting number batch fee }
 {
     if batch.number != number {
         return Err(Fault::OtherBatch(batch.number));
@@ -78,7 +77,7 @@ fn open_pair<D: Device, P: Policy>(
     second: &UpdateGrant,
     fee_place: u8,
 ) -> Result<(Batch, Fee), Fault>
-    ensures { Sound D.Device P.Policy pool.now → is_granted (book D.Device P.Policy pool.now) Updating first.now.mark first.now.page ≡ None → is_granted (book D.Device P.Policy pool.now) Updating second.now.mark second.now.page ≡ None → DidOpenPair number (book D.Device P.Policy pool.now).pages (record { page = first.now.page; place = batch_place }) (record { page = second.now.page; place = fee_place }) result }
+    ensures { Sound D.Device P.Policy pool.now → is_granted (book D.Device P.Policy pool.now) Updating first.now.mark first.now.page ≡ None → is_granted (book D.Device P.Policy pool.now) Updating second.now.mark second.now.page ≡ None → result ≡ pair_of number (book D.Device P.Policy pool.now).pages (record { page = first.now.page; place = batch_place }) (record { page = second.now.page; place = fee_place }) }
 {
     let batch_bytes = look(pool, first, batch_place)?;
     let fee_bytes = look(pool, second, fee_place)?;
@@ -97,7 +96,8 @@ pub(crate) fn settle_pair<D: Device, P: Policy>(
     second: &UpdateGrant,
     fee_place: u8,
 ) -> Result<(Batch, Fee), Fault>
-    ensures { Sound D.Device P.Policy pool.old → is_granted (book D.Device P.Policy pool.old) Updating first.now.mark first.now.page ≡ None → is_granted (book D.Device P.Policy pool.old) Updating second.now.mark second.now.page ≡ None → DidPair D.Device P.Policy number pool.old (record { page = first.now.page; place = batch_place }) (record { page = second.now.page; place = fee_place }) result pool.new }
+    ensures answer { Sound D.Device P.Policy pool.old → is_granted (book D.Device P.Policy pool.old) Updating first.now.mark first.now.page ≡ None → is_granted (book D.Device P.Policy pool.old) Updating second.now.mark second.now.page ≡ None → result ≡ pair_of number (book D.Device P.Policy pool.old).pages (record { page = first.now.page; place = batch_place }) (record { page = second.now.page; place = fee_place }) }
+    ensures did { Sound D.Device P.Policy pool.old → is_granted (book D.Device P.Policy pool.old) Updating first.now.mark first.now.page ≡ None → is_granted (book D.Device P.Policy pool.old) Updating second.now.mark second.now.page ≡ None → DidPair D.Device P.Policy number pool.old (record { page = first.now.page; place = batch_place }) (record { page = second.now.page; place = fee_place }) result pool.new }
 {
     let pair = open_pair(pool, number, first, batch_place, second, fee_place)?;
     let batch = BatchRecord::Settled(pair.0).encode();

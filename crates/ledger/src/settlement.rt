@@ -1,4 +1,7 @@
+ghost use Rattle.std.specs.Prelude.{◌≡◌};
+ghost use Rattle.pool.specs.Meaning.{book as book_of};
 ghost use Rattle.pool.specs.Sound.{Sound};
+ghost use Rattle.ledger.specs.Answered.{settlement};
 ghost use Rattle.ledger.specs.Settled.{DidSettle};
 
 use crate::fault::Fault;
@@ -17,7 +20,8 @@ pub fn settle<D: Device, P: Policy>(
     batch: Spot,
     fee: Spot,
 ) -> Result<(Batch, Fee), Fault>
-    ensures { Sound D.Device P.Policy pool.old → DidSettle D.Device P.Policy number pool.old batch fee result pool.new }
+    ensures answer { Sound D.Device P.Policy pool.old → result ≡ settlement number (book_of D.Device P.Policy pool.old) batch fee }
+    ensures did { Sound D.Device P.Policy pool.old → DidSettle D.Device P.Policy number pool.old batch fee result pool.new }
 {
     let first = match pool.fix_update(batch.page) {
         Ok(grant) => grant,

@@ -19,4 +19,4 @@ returns g c s =
     let one = (c.in-Some.ensures s).undisturbed in
     let two = (c.in-Some-find.ensures one.sound).undisturbed in
     let u = both d p c.args.pool.now c.find.new.pool c.find-2.new.pool one two in
-    found-then d p c.args.number c.args.pool.now c.find-2.new.pool c.settle.new.pool c.in-Some.batch c.in-Some-find.fee c.settle.result u (c.settle.ensures u.sound)
+    found-then d p c.args.number c.args.pool.now c.find-2.new.pool c.settle.new.pool c.in-Some.batch c.in-Some-find.fee c.settle.result u (c.settle.ensures.did u.sound)

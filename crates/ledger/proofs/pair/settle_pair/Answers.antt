@@ -7,14 +7,15 @@ use Rattle.records.specs.declared.batch.BatchRecord.TheVariants.{Settled}
 use Rattle.records.proofs.Trips.{batch_inverse, fee_inverse}
 use Rattle.pool.specs.Meaning.{book}
 use Rattle.ledger.proofs.Granted.{after_write}
+use Rattle.ledger.proofs.Opening.{pair-opens}
 use Rattle.ledger.proofs.pair.settle_pair.Goals as goal
 
 -- 32 bytes within the page
 within : (n : ℕ) (bytes whole : List ℕ) → bytes ≡ whole → length whole ≡ 32 → n + 32 ≤ 512 → n + length bytes ≤ 512
 within n bytes whole e l h = let z = ap length e in omega (arith, z)
 
-pub returns : goal.returns
-returns g c s first second =
+pub returns-clause-did : goal.returns-clause-did
+returns-clause-did g c s first second =
     let d = g.D.Device in
     let p = g.P.Policy in
     let pool = c.args.pool.now in
@@ -22,7 +23,7 @@ returns g c s first second =
     let x = c.args.first.now in
     let y = c.args.second.now in
     let b = book d p pool in
-    let pair = c.in_ok-pair.ensures s first second in
+    let pair = pair-opens c.args.number b.pages (record { page = x.page; place = c.args.batch_place }) (record { page = y.page; place = c.args.fee_place }) c.in_ok-pair.pair (c.in_ok-pair.ensures s first second) in
     let bb = c.encode-batch.ensures.bytes in
     let fb = c.encode-fee.ensures.bytes in
     let w1 = c.write.ensures s in
