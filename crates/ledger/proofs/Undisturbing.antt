@@ -1,5 +1,5 @@
 -- Searches, one after another.
-use Rattle.std.proofs.Common.{◌≡◌, ℕ, Some, Err, Result, refl, ◌∙◌, subst}
+use Rattle.std.proofs.Common.{ℕ, Err, Result, refl, ◌∙◌, subst}
 use Rattle.device.specs.Row.{Row}
 use Rattle.device.specs.declared.device.Device as device
 use Rattle.policy.specs.declared.policy.Policy as policy
@@ -8,12 +8,11 @@ use Rattle.records.specs.declared.fee.Fee.{Fee}
 use Rattle.pool.specs.Meaning.{book}
 use Rattle.pool.specs.Sound.{Sound}
 use Rattle.pool.specs.declared.pool.Pool.{Pool}
-use Rattle.ledger.specs.declared.finding.Kept.{Kept}
-use Rattle.ledger.specs.Finding.{Undisturbed, number_in}
+use Rattle.ledger.specs.Finding.{Undisturbed}
 use Rattle.ledger.specs.declared.fault.Fault.{Fault}
 use Rattle.ledger.specs.declared.spot.Spot.{Spot}
 use Rattle.ledger.specs.Numbered.{DidSettleNumber}
-use Rattle.ledger.specs.Settled.{bytes_in, Pages, DidSettle}
+use Rattle.ledger.specs.Settled.{Pages, DidSettle}
 
 module _ {D P : Type 0} (d : device.Ghosts D) (p : policy.Ghosts P) where
   pub at_rest : (pool : Pool D P) → Sound d p pool → Undisturbed d p pool pool
@@ -25,10 +24,6 @@ module _ {D P : Type 0} (d : device.Ghosts D) (p : policy.Ghosts P) where
     grants = record { reading = λ q. b.grants.reading q ∙ a.grants.reading q; updating = λ q. b.grants.updating q ∙ a.grants.updating q };
     pages = λ q. b.pages q ∙ a.pages q;
   }
-
-  -- what stands there stood there before
-  pub stood : (pool mid : Pool D P) (kept : Kept) (page place number : ℕ) → Undisturbed d p pool mid → number_in kept (bytes_in (book d p mid).pages page place) ≡ Some number → number_in kept (bytes_in (book d p pool).pages page place) ≡ Some number
-  stood pool mid kept page place number a h = (let R : Row → Type 0 = λ r. number_in kept (bytes_in r page place) ≡ Some number in subst R (λ k q. a.pages q k) h)
 
 module _ {D P : Type 0} (d : device.Ghosts D) (p : policy.Ghosts P) (number : ℕ) where
   -- nothing was settled
