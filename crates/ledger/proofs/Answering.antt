@@ -10,16 +10,16 @@ use Rattle.records.specs.declared.fee.Fee.{Fee}
 use Rattle.ledger.specs.declared.fault.Fault.{Fault}
 use Rattle.ledger.specs.declared.fault.Fault.TheVariants as fault
 use Rattle.ledger.specs.declared.spot.Spot.{Spot}
-use Rattle.ledger.specs.Answered.{open_pair, settlement, unless_refused}
+use Rattle.ledger.specs.Answered.{open_pair, settlement, or_refused}
 
 module _ (number : ℕ) (b : Book) (x y : Spot) where
   pub no-first : (r : Refusal) → refusal b (Fix Updating x.page) ≡ Some r → Err (fault.Refused x.page r) ≡ settlement number b x y
-  no-first r e = sym (ap (λ (o : Option Refusal). unless_refused x.page o (unless_refused y.page (refusal (next b (Fix Updating x.page)) (Fix Updating y.page)) (open_pair number b.pages x y))) e)
+  no-first r e = sym (ap (λ (o : Option Refusal). or_refused x.page o (or_refused y.page (refusal (next b (Fix Updating x.page)) (Fix Updating y.page)) (open_pair number b.pages x y))) e)
 
   module _ (one : Book) (after : one ≡ next b (Fix Updating x.page)) (first : refusal b (Fix Updating x.page) ≡ None) where
     -- the answer, by what the second fix was answered
-    second : (u : Option Refusal) → refusal one (Fix Updating y.page) ≡ u → unless_refused y.page u (open_pair number b.pages x y) ≡ settlement number b x y
-    second u e = λ i. unless_refused x.page (sym first i) (unless_refused y.page (((sym e) ∙ ap (λ (k : Book). refusal k (Fix Updating y.page)) after) i) (open_pair number b.pages x y))
+    second : (u : Option Refusal) → refusal one (Fix Updating y.page) ≡ u → or_refused y.page u (open_pair number b.pages x y) ≡ settlement number b x y
+    second u e = λ i. or_refused x.page (sym first i) (or_refused y.page (((sym e) ∙ ap (λ (k : Book). refusal k (Fix Updating y.page)) after) i) (open_pair number b.pages x y))
 
     pub no-second : (r : Refusal) → refusal one (Fix Updating y.page) ≡ Some r → Err (fault.Refused y.page r) ≡ settlement number b x y
     no-second r e = second (Some r) e

@@ -11,7 +11,7 @@ use Rattle.book.specs.Call.Answer.{Granted, Refused}
 use Rattle.book.specs.declared.grant.Kind.{Kind}
 use Rattle.book.specs.declared.grant.Kind.TheVariants.{Reading, Updating}
 use Rattle.book.specs.declared.grant.Ticket.{Ticket}
-use Rattle.pool.specs.Did.{Did}
+use Rattle.pool.specs.Did.{Did, at_time}
 use Rattle.pool.specs.Meaning.{book}
 use Rattle.pool.specs.declared.pool.Pool.{Pool}
 use Rattle.pool.proofs.Doings.{next-accepted}
@@ -125,3 +125,10 @@ undone b b1 b2 b3 Updating page m s e = (
   },
   ap (λ (x : Book). x.pages) e,
 )
+
+-- a grant to read that is given and taken off again leaves the time alone behind
+pub undone_reading : (b b1 b3 : Book) (page t : ℕ) → b1 ≡ with_grants b t Reading page (b.reading page + 1) → b3 ≡ with_grants b1 b1.clock Reading page (b1.reading page - 1) → b3 ≡ at_time b t
+undone_reading b b1 b3 page t e k =
+    let back_again : with_grants (with_grants b t Reading page (b.reading page + 1)) t Reading page (put b.reading page (b.reading page + 1) page - 1) ≡ at_time b t =
+    λ i. record { size = b.size; bound = b.bound; mark = b.mark; clock = t; pages = b.pages; reading = λ q. put_back b.reading page q i; updating = b.updating } in
+    k ∙ ap (λ (x : Book). with_grants x x.clock Reading page (x.reading page - 1)) e ∙ back_again

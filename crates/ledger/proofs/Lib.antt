@@ -1,6 +1,9 @@
 pub mod Answering
 pub mod Granted
+pub mod Numbering
 pub mod Opening
+pub mod Placing
 pub mod Readings
+pub mod Searching
 pub mod Settling
 pub mod Undisturbing

@@ -25,8 +25,8 @@ use Rattle.book.proofs.Asked.{fixed}
 use Rattle.pool.proofs.Asking.{lost-shown}
 use Rattle.pool.proofs.Doings.{says-accepted}
 use Rattle.pool.proofs.Working.{two-yes}
-use Rattle.ledger.specs.Reading.{Filled, DidReadPage}
-use Rattle.ledger.proofs.Granted.{Same, more, more-out, undone, fix-accepted, fix-refused, after-fix, after-refusal, after_unfix}
+use Rattle.ledger.specs.Reading.{Filled, DidReadPage, after_reading}
+use Rattle.ledger.proofs.Granted.{Same, more, more-out, undone, undone_reading, fix-accepted, fix-refused, after-fix, after-refusal, after_unfix}
 
 -- an accepted read answered yes, and its bytes are those copied
 copied_is : (r : Result (Unit {0}) Refusal) (new bytes : List ℕ) → copied r new ≡ Copied bytes → (r ≡ Ok tt) × (new ≡ bytes)
@@ -52,6 +52,7 @@ module _ {D P : Type 0} (d : device.Ghosts D) (p : policy.Ghosts P) where
         pages = λ q. ap (λ (k : Pool D P). (book d p k).pages q) e;
         answer = ap verdict (sym (fix-refused (book d p pool) Reading page r h.doing.step.answer));
         buffer = refl;
+        next = ap (λ (k : Pool D P). book d p k) e ∙ ap (after_reading (book d p pool)) (sym (fix-refused (book d p pool) Reading page r h.doing.step.answer));
       }
 
   pub page-long : (pool : Pool D P) (page : ℕ) → Sound d p pool → refusal (book d p pool) (Fix Reading page) ≡ None → length (bytes_at ((book d p pool).pages page)) ≡ 512
@@ -71,20 +72,24 @@ module _ {D P : Type 0} (d : device.Ghosts D) (p : policy.Ghosts P) where
 
   pub read_whole : (pool one pool' : Pool D P) (page : ℕ) (t : Ticket) (g : ReadGrant) (old new : List ℕ) (r : Result (Unit {0}) Refusal) (a : Answer) → g ≡ read_grant (book d p pool).mark page → length old ≡ 512 → length (bytes_at ((book d p pool).pages page)) ≡ 512 → Did d p pool (Fix Reading page) (Granted t) one → DidCopy d p one (to_read g) 0 old r new → Did d p one (Unfix (to_read g)) a pool' → DidReadPage d p pool page old r pool' new
   read_whole pool one pool' page t g old new r a eg l m h1 h2 h3 =
-      let k = more (book d p pool) (book d p one) Reading page _ (after-fix d p pool one Reading page t h1) in
+      let fix = after-fix d p pool one Reading page t h1 in
+      let k = more (book d p pool) (book d p one) Reading page _ fix in
       let same : Same (book d p one) (book d p one) = record { mark = refl; reading = refl; updating = refl } in
       let out = more-out (book d p pool) (book d p one) (book d p one) Reading page k same in
       let tk = to_read (read_grant (book d p pool).mark page) in
       let C : ReadGrant → Type 0 = λ x. DidCopy d p one (to_read x) 0 old r new in
       let U : ReadGrant → Type 0 = λ x. Did d p one (Unfix (to_read x)) a pool' in
       let w = whole one tk old new r out l (ap (λ (f : Row). length (bytes_at (f page))) k.pages ∙ m) (subst C eg h2) in
-      let u = undone (book d p pool) (book d p one) (book d p one) (book d p pool') Reading page k same (after_unfix d p one pool' tk a (subst U eg h3) out) in
+      let unfix = after_unfix d p one pool' tk a (subst U eg h3) out in
+      let u = undone (book d p pool) (book d p one) (book d p one) (book d p pool') Reading page k same unfix in
+      let yes_it = fix-accepted (book d p pool) Reading page t h1.doing.step.answer in
       let after : (book d p pool').pages ≡ (book d p pool).pages = u.1 ∙ k.pages in
       let B : Result (Unit {0}) Refusal → Type 0 = λ x. Filled x (bytes_at ((book d p pool).pages page)) old new in
       record {
         sound = h3.sound;
         grants = record { reading = λ q. ap (λ (f : ℕ → ℕ). f q) u.0.reading; updating = λ q. ap (λ (f : ℕ → ℕ). f q) u.0.updating };
         pages = λ q. ap (λ (f : Row). f q) after;
-        answer = w.0 ∙ ap verdict (sym (fix-accepted (book d p pool) Reading page t h1.doing.step.answer));
+        answer = w.0 ∙ ap verdict (sym yes_it);
         buffer = subst B (sym w.0) (w.1 ∙ ap (λ (f : Row). bytes_at (f page)) k.pages);
+        next = undone_reading (book d p pool) (book d p one) (book d p pool') page _ fix unfix ∙ ap (after_reading (book d p pool)) (sym yes_it);
       }

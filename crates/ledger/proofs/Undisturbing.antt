@@ -1,5 +1,5 @@
 -- Searches, one after another.
-use Rattle.std.proofs.Common.{◌≡◌, ℕ, Some, Err, Result, refl, ◌∙◌, subst}
+use Rattle.std.proofs.Common.{◌≡◌, ℕ, Err, Result, refl, ◌∙◌, subst}
 use Rattle.device.specs.Row.{Row}
 use Rattle.device.specs.declared.device.Device as device
 use Rattle.policy.specs.declared.policy.Policy as policy
@@ -8,12 +8,13 @@ use Rattle.records.specs.declared.fee.Fee.{Fee}
 use Rattle.pool.specs.Meaning.{book}
 use Rattle.pool.specs.Sound.{Sound}
 use Rattle.pool.specs.declared.pool.Pool.{Pool}
-use Rattle.ledger.specs.declared.finding.Kept.{Kept}
-use Rattle.ledger.specs.Finding.{Undisturbed, number_in}
+use Rattle.ledger.specs.Finding.{Undisturbed}
 use Rattle.ledger.specs.declared.fault.Fault.{Fault}
 use Rattle.ledger.specs.declared.spot.Spot.{Spot}
-use Rattle.ledger.specs.Numbered.{DidSettleNumber}
-use Rattle.ledger.specs.Settled.{bytes_in, Pages, DidSettle}
+use Rattle.ledger.specs.declared.numbered.Shelves.{Shelves}
+use Rattle.ledger.specs.Numbered.{DidSettleNumber, Found, batch_search, with_batch}
+use Rattle.ledger.specs.Settled.{Pages, DidSettle}
+use Rattle.ledger.proofs.Numbering.{if-found}
 
 module _ {D P : Type 0} (d : device.Ghosts D) (p : policy.Ghosts P) where
   pub at_rest : (pool : Pool D P) → Sound d p pool → Undisturbed d p pool pool
@@ -26,22 +27,20 @@ module _ {D P : Type 0} (d : device.Ghosts D) (p : policy.Ghosts P) where
     pages = λ q. b.pages q ∙ a.pages q;
   }
 
-  -- what stands there stood there before
-  pub stood : (pool mid : Pool D P) (kept : Kept) (page place number : ℕ) → Undisturbed d p pool mid → number_in kept (bytes_in (book d p mid).pages page place) ≡ Some number → number_in kept (bytes_in (book d p pool).pages page place) ≡ Some number
-  stood pool mid kept page place number a h = (let R : Row → Type 0 = λ r. number_in kept (bytes_in r page place) ≡ Some number in subst R (λ k q. a.pages q k) h)
-
-module _ {D P : Type 0} (d : device.Ghosts D) (p : policy.Ghosts P) (number : ℕ) where
+module _ {D P : Type 0} (d : device.Ghosts D) (p : policy.Ghosts P) (s : Shelves) (number : ℕ) where
   -- nothing was settled
-  pub not_found : (pool pool' : Pool D P) (x y : Spot) (e : Fault) → Undisturbed d p pool pool' → DidSettleNumber d p number pool (Err e) pool'
-  not_found pool pool' x y e a = record { batch = x; fee = y; did = record { sound = a.sound; grants = a.grants; pages = a.pages } }
+  pub not_found : (pool pool' : Pool D P) (x y : Spot) (e : Fault) → Undisturbed d p pool pool' → Err e ≡ with_batch s number (batch_search s number (book d p pool)) → DidSettleNumber d p s number pool (Err e) pool'
+  not_found pool pool' x y e a is = record { answer = is; batch = x; fee = y; found = tt; did = record { sound = a.sound; grants = a.grants; pages = a.pages } }
 
   -- a settlement after searches
-  pub found-then : (pool mid pool' : Pool D P) (x y : Spot) (r : Result (Batch × Fee) Fault) → Undisturbed d p pool mid → DidSettle d p number mid x y r pool' → DidSettleNumber d p number pool r pool'
-  found-then pool mid pool' x y r a h =
+  pub found-then : (pool mid pool' : Pool D P) (x y : Spot) (r : Result (Batch × Fee) Fault) → Undisturbed d p pool mid → DidSettle d p number mid x y r pool' → Found s number (book d p pool) x y → r ≡ with_batch s number (batch_search s number (book d p pool)) → DidSettleNumber d p s number pool r pool'
+  found-then pool mid pool' x y r a h f is =
       let R : Row → Type 0 = λ v. Pages number v x y r (book d p pool').pages in
       record {
+        answer = is;
         batch = x;
         fee = y;
+        found = if-found r f;
         did = record {
           sound = h.sound;
           grants = record { reading = λ q. h.grants.reading q ∙ a.grants.reading q; updating = λ q. h.grants.updating q ∙ a.grants.updating q };

@@ -57,12 +57,13 @@ open_pair number pages x y =
     then (open_fee y.page (fee_of ys)) (λ f.
     then (fitting number b f) (λ _. Ok (b, f))))))
 
-abbrev pub unless_refused : {A : Type 0} → ℕ → Option Refusal → Result A Fault → Result A Fault
-unless_refused page None r = r
-unless_refused page (Some e) r = Err (fault.Refused page e)
+-- What a fix of a page is refused, if it is.
+abbrev pub or_refused : {A : Type 0} → ℕ → Option Refusal → Result A Fault → Result A Fault
+or_refused page None r = r
+or_refused page (Some e) r = Err (fault.Refused page e)
 
 -- Both pages are fixed for update, the batch's first; then both records are looked at.
 abbrev pub settlement : ℕ → Book → Spot → Spot → Result (Batch × Fee) Fault
 settlement number b x y =
-    unless_refused x.page (refusal b (Fix Updating x.page))
-    (unless_refused y.page (refusal (next b (Fix Updating x.page)) (Fix Updating y.page)) (open_pair number b.pages x y))
+    or_refused x.page (refusal b (Fix Updating x.page))
+    (or_refused y.page (refusal (next b (Fix Updating x.page)) (Fix Updating y.page)) (open_pair number b.pages x y))

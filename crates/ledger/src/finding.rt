@@ -1,7 +1,6 @@
-ghost use Rattle.std.specs.Prelude.{◌≡◌, true, IfSome, Some};
-ghost use Rattle.records.specs.Layout.{record_in};
+ghost use Rattle.std.specs.Prelude.{◌≡◌, ◌<◌};
 ghost use Rattle.pool.specs.Sound.{Sound};
-ghost use Rattle.ledger.specs.Finding.{DidFind, DidFindOn, number_in};
+ghost use Rattle.ledger.specs.Finding.{DidFind, DidFindOn, number_in, place_in, stands_at};
 
 use crate::reading::read_page;
 use crate::spot::Spot;
@@ -37,7 +36,8 @@ fn number_in(kept: Kept, bytes: &[u8; 32]) -> Option<u32>
 
 // Whether the record at a place of a page is of a batch.
 fn stands_at(kept: Kept, page: &[u8; 512], place: u8, number: u32) -> bool
-    ensures { result ≡ true → number_in kept (record_in page.now place) ≡ Some number }
+    requires { place < 16 }
+    ensures { result ≡ stands_at kept page.now place number }
 {
     let Some(bytes) = record_at(page, place as usize) else {
         return false;
@@ -48,9 +48,9 @@ fn stands_at(kept: Kept, page: &[u8; 512], place: u8, number: u32) -> bool
     }
 }
 
-// The place of a batch on a page, if it stands there.
+// The first place of a batch on a page, if it stands there.
 fn place_in(kept: Kept, page: &[u8; 512], number: u32) -> Option<u8>
-    ensures { IfSome result (λ i. number_in kept (record_in page.now i) ≡ Some number) }
+    ensures { result ≡ place_in kept page.now number }
 {
     for place in 0..16 {
         if stands_at(kept, page, place, number) {
@@ -84,7 +84,7 @@ pub fn find<D: Device, P: Policy>(
     end: u32,
     number: u32,
 ) -> Option<Spot>
-    ensures { Sound D.Device P.Policy pool.old → DidFind D.Device P.Policy pool.old kept number result pool.new }
+    ensures { Sound D.Device P.Policy pool.old → DidFind D.Device P.Policy pool.old kept number first end result pool.new }
 {
     for page in first..end {
         if let Some(place) = find_on(pool, kept, page, number) {

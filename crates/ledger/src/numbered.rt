@@ -22,7 +22,7 @@ pub fn settle_number<D: Device, P: Policy>(
     shelves: Shelves,
     number: u32,
 ) -> Result<(Batch, Fee), Fault>
-    ensures { Sound D.Device P.Policy pool.old → DidSettleNumber D.Device P.Policy number pool.old result pool.new }
+    ensures { Sound D.Device P.Policy pool.old → DidSettleNumber D.Device P.Policy shelves number pool.old result pool.new }
 {
     let Some(batch) = find(pool, Kept::Batches, 0, shelves.fees_from, number) else {
         return Err(Fault::NoBatch);
