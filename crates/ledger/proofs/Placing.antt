@@ -1,8 +1,12 @@
 -- The first place from one on, step by step.
-use Rattle.std.proofs.Common.{◌≡◌, ℕ, suc, ◌+◌, ◌-◌, ◌<◌, ◌≤◌, true, false, List, Some, None, ap, ◌∙◌, arith}
-use Rattle.std.proofs.lemmas.Bool.{cond-true, cond-false}
+use Rattle.std.proofs.Common.{◌≡◌, ℕ, suc, ◌+◌, ◌-◌, ◌<◌, ◌≤◌, Bool, true, false, ◌&&◌, nat_lt, List, Some, None, sym, ap, ◌∙◌, arith}
+use Rattle.std.proofs.lemmas.Bool.{cond-true, cond-false, lt-ltb}
 use Rattle.ledger.specs.Finding.{first_place, stands_at}
 use Rattle.ledger.specs.declared.finding.Kept.{Kept}
+
+-- of a place that is one of the 16, the test is whether the number stands there
+pub among_16 : (k : ℕ) (stands r : Bool) → k < 16 → r ≡ (nat_lt k 16 && stands) → stands ≡ r
+among_16 k stands r l h = sym (h ∙ ap (λ (x : Bool). x && stands) (lt-ltb k 16 l))
 
 module _ (kept : Kept) (page : List ℕ) (number : ℕ) where
   -- the number stands at the next place

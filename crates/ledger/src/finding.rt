@@ -1,4 +1,4 @@
-ghost use Rattle.std.specs.Prelude.{◌≡◌, ◌<◌};
+ghost use Rattle.std.specs.Prelude.{◌≡◌, ◌&&◌, nat_lt};
 ghost use Rattle.pool.specs.Sound.{Sound};
 ghost use Rattle.ledger.specs.Finding.{DidFind, DidFindOn, number_in, place_in, stands_at};
 
@@ -36,8 +36,7 @@ fn number_in(kept: Kept, bytes: &[u8; 32]) -> Option<u32>
 
 // Whether the record at a place of a page is of a batch.
 fn stands_at(kept: Kept, page: &[u8; 512], place: u8, number: u32) -> bool
-    requires { place < 16 }
-    ensures { result ≡ stands_at kept page.now place number }
+    ensures { result ≡ (nat_lt place 16 && stands_at kept page.now place number) }
 {
     let Some(bytes) = record_at(page, place as usize) else {
         return false;
