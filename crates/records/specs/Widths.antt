@@ -1,3 +1,4 @@
+-- What the laws of the fields of a record rest on.
 use Rattle.std.proofs.Common.{◌≡◌, ℕ, zero, suc, ◌+◌, ◌*◌, ◌/◌, ◌%◌, ◌^◌, ◌<◌, ◌≤◌, List, [], ◌∷◌, ◌++◌, length, take, drop, sym, refl, ap, ◌∙◌, subst, pow-suc, arith, lit<, length-drop, length-take}
 use Rattle.std.specs.Int.Digits.{AllBelowBase}
 use Rattle.std.proofs.ByRecursion.{All-take, All-drop}
@@ -51,23 +52,6 @@ module _ (bs : List ℕ) (under : AllBelowBase 256 bs) where
   field_small at w h =
       let l : length (take w (drop at bs)) ≡ w = simp (length-take, length-drop) (omega arith) in
       subst (λ n. field at w bs < 256 ^ n) l (number_small (take w (drop at bs)) (part at w))
-
--- What `to_le_bytes` gives.
-pub four_bytes : (n : ℕ) → n % 256 ∷ n / 256 % 256 ∷ n / 65536 % 256 ∷ n / 16777216 % 256 ∷ [] ≡ bytes_of 4 n
-four_bytes n =
-    let a : n / 65536 ≡ n / 256 / 256 = omega arith in
-    let b : n / 16777216 ≡ n / 256 / 256 / 256 = omega arith in
-    rw (a, b)
-
-pub eight_bytes : (n : ℕ) → n % 256 ∷ n / 256 % 256 ∷ n / 65536 % 256 ∷ n / 16777216 % 256 ∷ n / 4294967296 % 256 ∷ n / 1099511627776 % 256 ∷ n / 281474976710656 % 256 ∷ n / 72057594037927936 % 256 ∷ [] ≡ bytes_of 8 n
-eight_bytes n =
-    let a : n / 65536 ≡ n / 256 / 256 = omega arith in
-    let b : n / 16777216 ≡ n / 256 / 256 / 256 = omega arith in
-    let c : n / 4294967296 ≡ n / 256 / 256 / 256 / 256 = omega arith in
-    let d : n / 1099511627776 ≡ n / 256 / 256 / 256 / 256 / 256 = omega arith in
-    let e : n / 281474976710656 ≡ n / 256 / 256 / 256 / 256 / 256 / 256 = omega arith in
-    let f : n / 72057594037927936 ≡ n / 256 / 256 / 256 / 256 / 256 / 256 / 256 = omega arith in
-    rw (a, b, c, d, e, f)
 
 -- A number in w bytes has so many, each below 256.
 pub length-bytes : (w n : ℕ) → length (bytes_of w n) ≡ w
