@@ -1,5 +1,5 @@
 -- The places of a page, cut into records.
-use Rattle.std.proofs.Common.{◌≡◌, ℕ, zero, suc, ◌+◌, ◌*◌, ◌<◌, ◌≤◌, ltb, List, length, get_or, take, drop, Some, None, Option, Bor, IfSome, MatchOption, is_some, sym, ap, ◌∙◌, arith}
+use Rattle.std.proofs.Common.{◌≡◌, ℕ, zero, suc, ◌+◌, ◌*◌, ◌<◌, ◌≤◌, ltb, List, get_or, take, drop, Some, None, Option, Bor, IfSome, MatchOption, is_some, sym, ap, ◌∙◌, arith}
 use borrow.Author.Tests.{ltb-true, ltb-false}
 use Rattle.std.specs.Option.{option_copied}
 use Rattle.std.specs.Simd.{first_chunks}
@@ -7,7 +7,7 @@ use Rattle.std.proofs.lemmas.List.{drop-drop}
 use Rattle.std.proofs.lemmas.Bool.{cond-true, cond-false, lt-ltb, le-ltb}
 use Rattle.records.specs.Layout.{record_in, place_of}
 
-chunk_at : (n k : ℕ) (xs : List ℕ) (i : ℕ) (d : List ℕ) → i < k → get_or (first_chunks n k xs) i d ≡ take n (drop (i * n) xs)
+pub chunk_at : (n k : ℕ) (xs : List ℕ) (i : ℕ) (d : List ℕ) → i < k → get_or (first_chunks n k xs) i d ≡ take n (drop (i * n) xs)
 chunk_at n zero xs i d h = absurd (omega arith)
 chunk_at n (suc k) xs zero d h = let e : 0 ≡ 0 * n = omega arith in ap (λ m. take n (drop m xs)) e
 chunk_at n (suc k) xs (suc i) d h =

@@ -1,5 +1,5 @@
 -- Records there and back, for every kind of fields.
-use Rattle.std.proofs.Common.{◌≡◌, ℕ, suc, ◌+◌, ◌-◌, ◌<◌, Bool, true, false, cond, not, eqb, ltb, List, ◌∷◌, ◌++◌, length, get_or, drop, replicate, Ok, Err, Result, sym, refl, ap, ◌∙◌, subst, arith, lit<, length-append, eqb-true, add-one, drop-cons}
+use Rattle.std.proofs.Common.{◌≡◌, ℕ, suc, ◌+◌, ◌-◌, ◌<◌, Bool, true, false, cond, not, eqb, ltb, List, ◌∷◌, ◌++◌, length, get_or, drop, replicate, Ok, Err, Result, sym, refl, ap, ◌∙◌, subst, arith, lit<, length-append, eqb-true}
 use lib.ListN.{length-replicate}
 use Rattle.std.proofs.ByRecursion.{All-append, All-from_get_or}
 use Rattle.std.proofs.lemmas.List.{get_or_at, drop_at, drop-drop}
@@ -7,7 +7,6 @@ use Rattle.records.specs.declared.malformed.Malformed.{Malformed}
 use Rattle.records.specs.declared.malformed.Malformed.TheVariants as malformed
 use Rattle.records.specs.declared.record.Record.{Record}
 use Rattle.records.specs.declared.record.Record.TheVariants.{Empty, Entered, Settled}
-use Rattle.records.specs.declared.status.Status.{Status}
 use Rattle.records.specs.declared.status.Status.TheVariants as status
 use Rattle.records.specs.Little.{blank}
 use Rattle.records.specs.Form.{Bytes, FieldLaws}

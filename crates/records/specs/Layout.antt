@@ -37,6 +37,12 @@ judged s padded bare =
 abbrev pub status_of : ℕ → List ℕ → Result Status Malformed
 status_of at bs = judged (slice_index bs at) (blank (drop (at + 1) bs)) (blank bs)
 
+-- The fields of a record that is not empty.
+abbrev pub fields_of : {T : Type 0} → Record T → Option T
+fields_of Empty = None
+fields_of (Entered x) = Some x
+fields_of (Settled x) = Some x
+
 -- The record with a status.
 abbrev pub by_status : {T : Type 0} → T → Result Status Malformed → Result (Record T) Malformed
 by_status x (Ok status.Empty) = Ok Empty

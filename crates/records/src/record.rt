@@ -1,6 +1,6 @@
 ghost use Rattle.std.specs.Prelude.{◌≡◌, ℕ, ◌-◌, List, ◌++◌, replicate, IfOk, Ok};
 ghost use Rattle.records.specs.Form.{FieldLaws};
-ghost use Rattle.records.specs.Layout.{record_bytes, record_of, with_status};
+ghost use Rattle.records.specs.Layout.{fields_of, record_bytes, record_of, with_status};
 
 use crate::RECORD;
 use crate::malformed::Malformed;
@@ -52,6 +52,16 @@ fn put<T: Fields>(fields: T, status: u8) -> [u8; 32]
 }
 
 impl<T: Fields> Record<T> {
+    // The fields, where the place is not empty.
+    pub fn fields(self) -> Option<T>
+        ensures { result ≡ fields_of self }
+    {
+        match self {
+            Record::Empty => None,
+            Record::Entered(fields) | Record::Settled(fields) => Some(fields),
+        }
+    }
+
     // The 32 bytes of the record.
     pub fn encode(&self) -> [u8; 32]
         ensures bytes { result ≡ record_bytes T.STATUS T.written self.now }

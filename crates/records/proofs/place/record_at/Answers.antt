@@ -1,7 +1,6 @@
-use Rattle.std.proofs.Common.{◌≡◌, ℕ, ◌/◌, ◌<◌, ◌≤◌, ltb, List, length, get_or, Some, None, Option, Bor, IfSome, MatchOption, sym, subst, ap, ◌∙◌, arith}
-use Rattle.std.specs.Option.{option_copied}
+use Rattle.std.proofs.Common.{◌≡◌, ℕ, ◌/◌, ◌<◌, ◌≤◌, ltb, List, length, get_or, Option, IfSome, MatchOption, sym, subst, ap, ◌∙◌, arith}
 use Rattle.std.specs.Simd.{first_chunks}
-use Rattle.records.specs.Layout.{record_in, place_of}
+use Rattle.records.specs.Layout.{record_in}
 use Rattle.records.proofs.Places.{placed}
 use Rattle.records.proofs.place.record_at.Goals as goal
 

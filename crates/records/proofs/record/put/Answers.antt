@@ -1,4 +1,4 @@
-use Rattle.std.proofs.Common.{◌≡◌, List, ℕ, suc, ◌+◌, ◌-◌, ◌∷◌, ◌++◌, replicate, set, sym, ap, ◌∙◌, arith}
+use Rattle.std.proofs.Common.{◌≡◌, suc, ◌-◌, ◌++◌, replicate, set, ap, ◌∙◌, arith}
 use Rattle.std.proofs.lemmas.List.{set_at}
 use Rattle.records.proofs.record.put.Goals as goal
 

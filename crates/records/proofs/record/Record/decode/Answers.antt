@@ -1,4 +1,5 @@
 use Rattle.std.proofs.Common.{◌≡◌, ℕ, List, Ok, Err, IfOk, Result, sym, refl, ap, subst, ◌∙◌, rules}
+use Rattle.records.specs.declared.malformed.Malformed.{Malformed}
 use Rattle.records.specs.declared.record.Record.{Record}
 use Rattle.records.specs.declared.record.Record.TheVariants.{Empty, Entered, Settled}
 use Rattle.records.specs.declared.status.Status.{Status}
@@ -16,13 +17,15 @@ module _ {T : Type 0} {at : ℕ} {Fits : T → Type 0} {bytes : T → List ℕ} 
       let v = sym g ∙ ap (λ z. by_status (fields bs) (Ok z)) (sym f) ∙ ap (by_status (fields bs)) (e ∙ ap (λ m. status_of m bs) k) in
       (v, record-only laws bs h r (sym v))
 
+  refused : (n : ℕ) (bs : List ℕ) → n ≡ at → (why : Malformed) → Err why ≡ status_of n bs → (r : Result (Record T) Malformed) → r ≡ Err why → (r ≡ record_of at fields bs) × IfOk r (λ x. record_bytes at bytes x ≡ bs)
+  unfolding record_of
+  refused n bs k why e r h =
+      (h ∙ ap (by_status (fields bs)) (e ∙ ap (λ m. status_of m bs) k), subst (λ y. IfOk y (λ x. record_bytes at bytes x ≡ bs)) (sym h) tt)
+
 pub returns-in_err-status_at : goal.returns-in_err-status_at
-unfolding record_of
 returns-in_err-status_at g c =
-    let bs = c.args.bytes.now in
-    let r : c.from_residual.result ≡ Err c.in_err-status_at.field-0.0 = search rules in
-    let e = c.in_err-status_at.ensures ∙ ap (λ n. status_of n bs) c.STATUS.ensures in
-    record { value = r ∙ ap (by_status (g.T.Fields.read bs)) e; only = subst (λ x. IfOk x (λ y. record_bytes g.T.Fields.STATUS g.T.Fields.written y ≡ bs)) (sym r) tt }
+    let p = refused g.met.T.Fields.laws _ c.args.bytes.now c.STATUS.ensures c.in_err-status_at.field-0.0 c.in_err-status_at.ensures c.from_residual.result (search rules) in
+    record { value = p.0; only = p.1 }
 
 pub returns-in-Empty : goal.returns-in-Empty
 returns-in-Empty g c =
