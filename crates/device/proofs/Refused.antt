@@ -12,9 +12,9 @@ filled-refused (Some (sound bs)) old h = absurd (false≢true (sym h))
 filled-refused (Some (worn w bs)) old h = absurd (false≢true (sym h))
 filled-refused (Some (lost w)) old h = refl
 
-module _ (n : ℕ) (r : Row) (page : ℕ) (a : Result (Unit {0}) Refusal) (V : Type 0) (valid : V) (no : is_ok a ≡ false) where
-  pub refused-read : (old : List ℕ) → a ≡ read_at (r page) → DidRead n r page old a V n r old
-  refused-read old e = record { valid = valid; size = refl; row = λ k. refl; answer = e; buffer = filled-refused (r page) old (sym (ap is_ok e) ∙ no) }
+module _ (n : ℕ) (r : Row) (page : ℕ) (a : Result (Unit {0}) Refusal) (no : is_ok a ≡ false) where
+  pub refused-read : (old : List ℕ) → a ≡ read_at (r page) → DidRead n r page old a n r old
+  refused-read old e = record { size = refl; row = λ k. refl; answer = e; buffer = filled-refused (r page) old (sym (ap is_ok e) ∙ no) }
 
-  pub refused-write : (bytes : List ℕ) → a ≡ write_at (r page) → DidWrite n r page bytes a V n r
-  refused-write bytes e = record { valid = valid; size = refl; row = λ k. sym (written-refused r page bytes (sym (ap is_ok e) ∙ no) k); answer = e }
+  pub refused-write : (bytes : List ℕ) → a ≡ write_at (r page) → DidWrite n r page bytes a n r
+  refused-write bytes e = record { size = refl; row = λ k. sym (written-refused r page bytes (sym (ap is_ok e) ∙ no) k); answer = e }

@@ -4,16 +4,14 @@ use Rattle.device.specs.Row.{Row, read_at, filled_at, write_at, written}
 
 -- What a read of a device with n pages did, where the buffer had `old` and has `new`: the device is
 -- as it was, and the buffer has the page's bytes, or on a refusal what it had.
-pub record DidRead (n : ℕ) (pages : Row) (page : ℕ) (old : List ℕ) (r : Result (Unit {0}) Refusal) (Valid' : Type 0) (n' : ℕ) (pages' : Row) (new : List ℕ) : Type 0 where
-  pub valid : Valid'
+pub record DidRead (n : ℕ) (pages : Row) (page : ℕ) (old : List ℕ) (r : Result (Unit {0}) Refusal) (n' : ℕ) (pages' : Row) (new : List ℕ) : Type 0 where
   pub size : n' ≡ n
   pub row : (k : ℕ) → pages' k ≡ pages k
   pub answer : r ≡ read_at (pages page)
   pub buffer : new ≡ filled_at (pages page) old
 
 -- What a write did: where it was accepted, one page has the new bytes, and nothing else is altered.
-pub record DidWrite (n : ℕ) (pages : Row) (page : ℕ) (bytes : List ℕ) (r : Result (Unit {0}) Refusal) (Valid' : Type 0) (n' : ℕ) (pages' : Row) : Type 0 where
-  pub valid : Valid'
+pub record DidWrite (n : ℕ) (pages : Row) (page : ℕ) (bytes : List ℕ) (r : Result (Unit {0}) Refusal) (n' : ℕ) (pages' : Row) : Type 0 where
   pub size : n' ≡ n
   pub row : (k : ℕ) → pages' k ≡ written pages page bytes k
   pub answer : r ≡ write_at (pages page)

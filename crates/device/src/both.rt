@@ -11,7 +11,7 @@ pub fn write_then_read<D: Device>(
     other: u32,
     buffer: &mut [u8; 512],
 ) -> (Result<(), Refusal>, Result<(), Refusal>)
-    ensures { D.Device.valid device.old → DidBoth (D.Device.row device.old) page bytes.now other buffer.old result.0 result.1 (D.Device.row device.new) buffer.new }
+    ensures { DidBoth (D.Device.row device.old) page bytes.now other buffer.old result.0 result.1 (D.Device.row device.new) buffer.new }
 {
     let wrote = device.write(page, bytes);
     let read = device.read(other, buffer);

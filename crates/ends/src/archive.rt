@@ -2,7 +2,7 @@ ghost use Rattle.std.specs.Prelude.{◌≡◌, length};
 ghost use Rattle.ends.specs.Bytes.{pages_in, archive_row};
 ghost use Rattle.ends.specs.Shapes.{archive_of};
 
-use crate::bytes::{copy_page, whole_pages};
+use crate::bytes::{copy_page, start, whole_pages};
 use device::Device;
 use page::{Origin, Refusal, State};
 
@@ -14,8 +14,7 @@ pub struct Archive<'a> {
 
 impl<'a> Archive<'a> {
     pub fn new(bytes: &'a [u8]) -> Archive<'a>
-        ensures bytes { result.bytes.now ≡ bytes.now }
-        ensures valid { archive_of.valid result }
+        ensures { result.bytes.now ≡ bytes.now }
     {
         Archive { bytes }
     }
@@ -26,8 +25,6 @@ impl<'a> Device for Archive<'a> {
 
     ghost row = { archive_of.row };
 
-    ghost valid = { archive_of.valid };
-
     ghost shaped = { archive_of.shaped };
 
     fn count(&self) -> u32 {
@@ -35,24 +32,16 @@ impl<'a> Device for Archive<'a> {
     }
 
     fn state(&self, page: u32) -> Result<State, Refusal> {
-        if page >= whole_pages(self.bytes.len()) {
-            return Err(Refusal::NoSuchPage);
-        }
+        start(self.bytes.len(), page)?;
         Ok(State::Worn(Origin::here(page)))
     }
 
     fn read(&mut self, page: u32, buffer: &mut [u8; 512]) -> Result<(), Refusal> {
-        if page >= whole_pages(self.bytes.len()) {
-            return Err(Refusal::NoSuchPage);
-        }
-        copy_page(self.bytes, page, buffer);
-        Ok(())
+        copy_page(self.bytes, page, buffer)
     }
 
     fn write(&mut self, page: u32, _bytes: &[u8; 512]) -> Result<(), Refusal> {
-        if page >= whole_pages(self.bytes.len()) {
-            return Err(Refusal::NoSuchPage);
-        }
+        start(self.bytes.len(), page)?;
         Err(Refusal::WornPage(Origin::here(page)))
     }
 }

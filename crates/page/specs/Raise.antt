@@ -1,4 +1,4 @@
-use Rattle.std.specs.Prelude.{◌+◌, min, Ok, Err, Result}
+use Rattle.std.specs.Prelude.{◌+◌, min, Some, None, Option, Ok, Err, Result}
 use Rattle.page.specs.declared.origin.Origin.{Origin}
 use Rattle.page.specs.declared.state.State.{State}
 use Rattle.page.specs.declared.state.State.TheVariants.{Sound, Worn, Lost}
@@ -9,6 +9,12 @@ use Rattle.page.specs.declared.refusal.Refusal.TheVariants.{FrameCount, NoSuchPa
 -- one greater, up to 255.
 abbrev pub raised : Origin → Origin
 raised o = record { page = o.page; depth = min (o.depth + 1) 255 }
+
+-- The origin of a state, if it has one.
+abbrev pub origin_in : State → Option Origin
+origin_in Sound = None
+origin_in (Worn o) = Some o
+origin_in (Lost o) = Some o
 
 abbrev pub raised_state : State → State
 raised_state Sound = Sound

@@ -2,6 +2,8 @@ use Rattle.std.specs.Prelude.{ℕ, List, [], ◌++◌, codes, decimal}
 use Rattle.page.specs.declared.origin.Origin.{Origin}
 use Rattle.page.specs.declared.refusal.Refusal.{Refusal}
 use Rattle.page.specs.declared.refusal.Refusal.TheVariants.{FrameCount, NoSuchPage, LostPage, WornPage, ClockFull, PageFull, NoFrame, NotGranted, PastPageEnd, NoPlace, PastLength}
+use Rattle.page.specs.declared.state.State.{State}
+use Rattle.page.specs.declared.state.State.TheVariants.{Sound, Worn, Lost}
 use Rattle.page.specs.Numbers.{number_of}
 
 -- What each refusal says in words.
@@ -18,8 +20,12 @@ reason_of PastPageEnd = codes "the bytes would reach past the end of the page"
 reason_of NoPlace = codes "the list has no free place"
 reason_of PastLength = codes "the place is not below the length of the list"
 
+-- An origin in words.
+abbrev pub origin_words : Origin → List ℕ
+origin_words o = codes "origin page " ++ (decimal o.page ++ (codes ", depth " ++ decimal o.depth))
+
 abbrev pub placed : Origin → List ℕ
-placed o = codes " (origin page " ++ (decimal o.page ++ (codes ", depth " ++ (decimal o.depth ++ codes ")")))
+placed o = codes " (" ++ (origin_words o ++ codes ")")
 
 -- The origin, where the refusal has one.
 abbrev pub origin_of : Refusal → List ℕ
@@ -38,3 +44,9 @@ origin_of PastLength = []
 -- The sentence that a refusal is printed as.
 abbrev pub sentence : Refusal → List ℕ
 sentence r = codes "refused " ++ (decimal (number_of r) ++ (codes ": " ++ (reason_of r ++ origin_of r)))
+
+-- The word for a state.
+abbrev pub word_of : State → List ℕ
+word_of Sound = codes "sound"
+word_of (Worn o) = codes "worn"
+word_of (Lost o) = codes "lost"

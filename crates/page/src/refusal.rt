@@ -56,8 +56,5 @@ impl Refusal {
 pub fn deeper<T>(answer: Result<T, Refusal>) -> Result<T, Refusal>
     ensures { result ≡ raised_result answer }
 {
-    match answer {
-        Ok(value) => Ok(value),
-        Err(refusal) => Err(refusal.deeper()),
-    }
+    answer.map_err(|refusal| refusal.deeper())
 }

@@ -1,5 +1,5 @@
 ghost use Rattle.std.specs.Prelude.{◌≡◌};
-ghost use Rattle.page.specs.Raise.{raised_state};
+ghost use Rattle.page.specs.Raise.{origin_in, raised_state};
 
 use crate::origin::Origin;
 
@@ -12,6 +12,16 @@ pub enum State {
 }
 
 impl State {
+    // Where the state was made, if the page is not sound.
+    pub fn origin(self) -> Option<Origin>
+        ensures { result ≡ origin_in self }
+    {
+        match self {
+            State::Sound => None,
+            State::Worn(origin) | State::Lost(origin) => Some(origin),
+        }
+    }
+
     // The same state, seen from one layer above.
     pub fn deeper(self) -> State
         ensures { result ≡ raised_state self }

@@ -4,14 +4,14 @@ use Rattle.device.proofs.Rows.{written_same, written-other, written-refused, rea
 use Rattle.device.proofs.both.write_then_read.Goals as goal
 
 pub returns : goal.returns
-returns g c v =
+returns g c =
     let rows : Row = g.D.Device.row c.args.device.now in
     let page = c.args.page in
     let bytes = c.args.bytes.now in
     let other = c.args.other in
     let old = c.args.buffer.now in
-    let w = c.write-wrote.ensures v in
-    let r = c.read-read.ensures w.valid in
+    let w = c.write-wrote.ensures in
+    let r = c.read-read.ensures in
     let said : is_ok c.write-wrote.result ≡ is_ok _ = ap is_ok w.answer in
     let seen = ap (λ o. filled_at o old) (w.row other) in
     record {
