@@ -1,5 +1,5 @@
 -- What an accepted admission has, over any policy.
-use Rattle.std.proofs.Common.{◌≡◌, ℕ, ◌<◌, Bool, true, false, cond, Some, None, Option, sym, ltb-true}
+use Rattle.std.proofs.Common.{◌≡◌, ℕ, ◌<◌, Bool, true, false, cond, Some, None, Option, ltb-true}
 use Rattle.std.proofs.lemmas.Bool.{false≢true}
 use Rattle.policy.specs.Sets.{accepts}
 

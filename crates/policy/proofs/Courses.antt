@@ -1,7 +1,7 @@
 -- A run, one reference after another.
-use Rattle.std.proofs.Common.{◌≡◌, ℕ, ◌+◌, ◌-◌, ◌<◌, ◌≤◌, Bool, true, false, cond, List, [], ◌∷◌, ◌++◌, length, get_or, take, drop, sym, refl, ap, ◌∙◌, subst, arith}
+use Rattle.std.proofs.Common.{◌≡◌, ℕ, ◌+◌, ◌-◌, ◌<◌, ◌≤◌, List, [], ◌∷◌, ◌++◌, length, get_or, take, drop, sym, ap, ◌∙◌, subst, arith}
 use Rattle.std.proofs.lemmas.List.{drop_more, drop-drop, at_drop_all, length-take, length-take-le}
-use Rattle.policy.specs.Runs.{Turn, turn, Course, start, onward, refer, run, hit_by, hits, fetches, reach, DidRun}
+use Rattle.policy.specs.Runs.{Turn, turn, Course, start, onward, refer, run, hits, reach, DidRun}
 use Rattle.policy.specs.declared.outcome.Outcome.{Outcome}
 use Rattle.policy.specs.declared.policy.Policy as policy
 use Rattle.policy.proofs.Tallies.{all-counted}
