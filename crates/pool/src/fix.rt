@@ -4,7 +4,6 @@ ghost use Rattle.book.specs.Call.Call.{Fix};
 ghost use Rattle.book.specs.declared.grant.Kind.TheVariants.{Reading, Updating};
 ghost use Rattle.pool.specs.Did.{Did, Gives, granted, read_grant, to_read, to_update, update_grant};
 ghost use Rattle.pool.specs.Meaning.{book as book_of};
-ghost use Rattle.pool.specs.Sound.{Sound};
 ghost use Rattle.pool.specs.Steps.{Timely, early, fixed_answer, verdict};
 
 use crate::grant::{ReadGrant, UpdateGrant};
@@ -18,7 +17,7 @@ impl<D: Device, P: Policy> Pool<D, P> {
     // The questions of a fix up to the clock.
     fn ask(&self, kind: Kind, page: u32) -> Result<(), Refusal>
         ensures time { Timely result self.now.clock }
-        ensures answer { Sound D.Device P.Policy self.now → result ≡ verdict (first_no (early (book_of D.Device P.Policy self.now) kind page)) }
+        ensures answer { result ≡ verdict (first_no (early (book_of self.now) kind page)) }
     {
         match (self.device.state(page)?, kind) {
             (State::Lost(origin), _) => return Err(Refusal::LostPage(origin)),
@@ -33,7 +32,7 @@ impl<D: Device, P: Policy> Pool<D, P> {
 
     // A fix of either kind.
     fn fix(&mut self, kind: Kind, page: u32) -> Result<(), Refusal>
-        ensures { Sound D.Device P.Policy self.old → Did D.Device P.Policy self.old (Fix kind page) (fixed_answer result kind self.old.mark page) self.new }
+        ensures { Did self.old (Fix kind page) (fixed_answer result kind self.old.mark page) self.new }
     {
         self.ask(kind, page)?;
         let t = self.clock + 1;
@@ -54,7 +53,7 @@ impl<D: Device, P: Policy> Pool<D, P> {
     // Fixes a page for reading.
     pub fn fix_read(&mut self, page: u32) -> Result<ReadGrant, Refusal>
         ensures grant { Gives result (read_grant self.old.mark page) }
-        ensures did { Sound D.Device P.Policy self.old → Did D.Device P.Policy self.old (Fix Reading page) (granted to_read result) self.new }
+        ensures did { Did self.old (Fix Reading page) (granted to_read result) self.new }
     {
         let mark = self.mark;
         self.fix(Kind::Reading, page)?;
@@ -68,7 +67,7 @@ impl<D: Device, P: Policy> Pool<D, P> {
     // Fixes a page for update.
     pub fn fix_update(&mut self, page: u32) -> Result<UpdateGrant, Refusal>
         ensures grant { Gives result (update_grant self.old.mark page) }
-        ensures did { Sound D.Device P.Policy self.old → Did D.Device P.Policy self.old (Fix Updating page) (granted to_update result) self.new }
+        ensures did { Did self.old (Fix Updating page) (granted to_update result) self.new }
     {
         let mark = self.mark;
         self.fix(Kind::Updating, page)?;

@@ -1,6 +1,5 @@
 ghost use Rattle.book.specs.Call.Call.{Unfix, Write};
 ghost use Rattle.pool.specs.Did.{Did, DidCopy, done, to_read, to_update};
-ghost use Rattle.pool.specs.Sound.{Sound};
 ghost use Rattle.pool.specs.Steps.{Out};
 
 use crate::grant::{ReadGrant, UpdateGrant};
@@ -14,7 +13,7 @@ use policy::Policy;
 impl<D: Device, P: Policy> Pool<D, P> {
     // The place of a page for which a grant is out.
     fn granted(&self, ticket: Ticket) -> Result<Place, Refusal>
-        ensures { Sound D.Device P.Policy self.now → Out D.Device P.Policy self.now ticket.kind ticket.mark ticket.page result }
+        ensures { Out self.now ticket.kind ticket.mark ticket.page result }
     {
         let Some(place) = self.frames.find(ticket.page) else {
             return Err(Refusal::NotGranted);
@@ -27,7 +26,7 @@ impl<D: Device, P: Policy> Pool<D, P> {
 
     // A read under a grant of either kind.
     fn copy(&self, ticket: Ticket, offset: usize, buffer: &mut [u8]) -> Result<(), Refusal>
-        ensures { Sound D.Device P.Policy self.now → DidCopy D.Device P.Policy self.now ticket offset buffer.old result buffer.new }
+        ensures { DidCopy self.now ticket offset buffer.old result buffer.new }
     {
         let place = self.granted(ticket)?;
         self.frames.read(place, offset, buffer)
@@ -35,7 +34,7 @@ impl<D: Device, P: Policy> Pool<D, P> {
 
     // Copies bytes of the grant's page, from an offset on, over the whole of the buffer.
     pub fn read(&self, grant: &ReadGrant, offset: usize, buffer: &mut [u8]) -> Result<(), Refusal>
-        ensures { Sound D.Device P.Policy self.now → DidCopy D.Device P.Policy self.now (to_read grant.now) offset buffer.old result buffer.new }
+        ensures { DidCopy self.now (to_read grant.now) offset buffer.old result buffer.new }
     {
         let ticket = Ticket {
             kind: Kind::Reading,
@@ -52,7 +51,7 @@ impl<D: Device, P: Policy> Pool<D, P> {
         offset: usize,
         buffer: &mut [u8],
     ) -> Result<(), Refusal>
-        ensures { Sound D.Device P.Policy self.now → DidCopy D.Device P.Policy self.now (to_update grant.now) offset buffer.old result buffer.new }
+        ensures { DidCopy self.now (to_update grant.now) offset buffer.old result buffer.new }
     {
         let ticket = Ticket {
             kind: Kind::Updating,
@@ -64,7 +63,7 @@ impl<D: Device, P: Policy> Pool<D, P> {
 
     // Replaces bytes of the grant's page from an offset on.
     pub fn write(&mut self, grant: &UpdateGrant, offset: usize, bytes: &[u8]) -> Result<(), Refusal>
-        ensures { Sound D.Device P.Policy self.old → Did D.Device P.Policy self.old (Write grant.now.mark grant.now.page offset bytes.now) (done result) self.new }
+        ensures { Did self.old (Write grant.now.mark grant.now.page offset bytes.now) (done result) self.new }
     {
         let ticket = Ticket {
             kind: Kind::Updating,
@@ -77,7 +76,7 @@ impl<D: Device, P: Policy> Pool<D, P> {
 
     // An unfix of a grant of either kind.
     fn unfix(&mut self, ticket: Ticket) -> Result<(), Refusal>
-        ensures { Sound D.Device P.Policy self.old → Did D.Device P.Policy self.old (Unfix ticket) (done result) self.new }
+        ensures { Did self.old (Unfix ticket) (done result) self.new }
     {
         let place = self.granted(ticket)?;
         self.frames.unpin(place, ticket.kind);
@@ -86,7 +85,7 @@ impl<D: Device, P: Policy> Pool<D, P> {
 
     // Gives a grant to read back. The grant is spent, whether it is accepted or refused.
     pub fn unfix_read(&mut self, grant: ReadGrant) -> Result<(), Refusal>
-        ensures { Sound D.Device P.Policy self.old → Did D.Device P.Policy self.old (Unfix (to_read grant)) (done result) self.new }
+        ensures { Did self.old (Unfix (to_read grant)) (done result) self.new }
     {
         let mut grant = grant;
         grant.spent = true;
@@ -100,7 +99,7 @@ impl<D: Device, P: Policy> Pool<D, P> {
 
     // Gives a grant for update back. The grant is spent, whether it is accepted or refused.
     pub fn unfix_update(&mut self, grant: UpdateGrant) -> Result<(), Refusal>
-        ensures { Sound D.Device P.Policy self.old → Did D.Device P.Policy self.old (Unfix (to_update grant)) (done result) self.new }
+        ensures { Did self.old (Unfix (to_update grant)) (done result) self.new }
     {
         let mut grant = grant;
         grant.spent = true;

@@ -6,15 +6,15 @@ use Rattle.pool.proofs.Working.{copy_refused, did_copy}
 use Rattle.pool.proofs.pool.Pool.copy.Goals as goal
 
 pub returns-in_err-place : goal.returns-in_err-place
-returns-in_err-place g c s =
+returns-in_err-place g c =
     let d = g.D.Device in
     let p = g.P.Policy in
     let pool = c.args.self.now in
     let old = c.args.buffer.now in
-    let C : Result (Unit {0}) Refusal → Type 0 = λ r. DidCopy d p pool c.args.ticket c.args.offset old r old in
-    subst C (sym (exit_err c.from_residual.result _ c.from_residual.ensures.1)) (copy_refused d p pool c.args.ticket c.args.offset old _ s (c.in_err-place.ensures s))
+    let C : Result (Unit {0}) Refusal → Type 0 = λ r. DidCopy pool c.args.ticket c.args.offset old r old in
+    subst C (sym (exit_err c.from_residual.result _ c.from_residual.ensures.1)) (copy_refused pool c.args.ticket c.args.offset old _ c.in_err-place.ensures)
 
 pub returns : goal.returns
-returns g c s =
-    let out = c.in_ok-place.ensures s in
-    did_copy g.D.Device g.P.Policy c.args.self.now c.args.ticket c.args.offset c.args.buffer.now _ _ c.in_ok-place.place.index s out.0 out.1 out.2 c.read.ensures.answer c.read.ensures.buffer
+returns g c =
+    let out = c.in_ok-place.ensures in
+    did_copy c.args.self.now c.args.ticket c.args.offset c.args.buffer.now _ _ c.in_ok-place.place.index out.0 out.1 out.2 c.read.ensures.answer c.read.ensures.buffer

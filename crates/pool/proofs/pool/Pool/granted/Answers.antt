@@ -9,17 +9,17 @@ use Rattle.pool.proofs.pool.Pool.granted.Goals as goal
 use Rattle.pool.proofs.pool.Pool.granted.Goals.{then-ticket-self-via-then-ticket-self, then-ticket-self-via-else-ticket-self+then-pins_of-eq0}
 
 pub returns-in_default : goal.returns-in_default
-returns-in_default g c s =
+returns-in_default g c =
     let pool = c.args.self.now in
-    let b = book g.D.Device g.P.Policy pool in
+    let b = book pool in
     let t = c.args.ticket in
     let o = at pool.frames.used (frame pool.frames) in
     grant_no b t.kind t.mark t.page (λ e. granted_at t.kind o t.page ∙ ap (pins_at t.kind) (at_out pool.frames.used (frame pool.frames) t.page c.in_default.ensures))
 
 pub returns-then-ticket-self : goal.returns-then-ticket-self
-returns-then-ticket-self g c s =
+returns-then-ticket-self g c =
     let pool = c.args.self.now in
-    let b = book g.D.Device g.P.Policy pool in
+    let b = book pool in
     let t = c.args.ticket in
     let n = pool.frames.used in
     let F = frame pool.frames in
@@ -28,20 +28,20 @@ returns-then-ticket-self g c s =
     elim c.then-ticket-self.branch [
       | then-ticket-self-via-then-ticket-self w ↦ absurd (w.if-ticket-self.true e)
       | then-ticket-self-via-else-ticket-self+then-pins_of-eq0 w ↦
-          granted_at t.kind (at n F) t.page ∙ ap (pins_at t.kind) (at_here n F c.in-Some.place.index t.page s.tied.once found.0 found.1)
+          granted_at t.kind (at n F) t.page ∙ ap (pins_at t.kind) (at_here n F c.in-Some.place.index t.page pool.tied.once found.0 found.1)
           ∙ ap (pins_of t.kind) (sym w.slot.ensures) ∙ sym w.pins_of.ensures ∙ w.if-pins_of-eq0.true
     ])
 
 pub returns : goal.returns
-returns g c s =
+returns g c =
     let pool = c.args.self.now in
-    let b = book g.D.Device g.P.Policy pool in
+    let b = book pool in
     let t = c.args.ticket in
     let n = pool.frames.used in
     let F = frame pool.frames in
     let i = c.in-Some.place.index in
     let found = c.in-Some.ensures in
-    let out : granted b t.kind t.page ≡ pins_of t.kind (F i).slot = granted_at t.kind (at n F) t.page ∙ ap (pins_at t.kind) (at_here n F i t.page s.tied.once found.0 found.1) in
+    let out : granted b t.kind t.page ≡ pins_of t.kind (F i).slot = granted_at t.kind (at n F) t.page ∙ ap (pins_at t.kind) (at_here n F i t.page pool.tied.once found.0 found.1) in
     let few : 0 < pins_of t.kind (F i).slot = above _ _ (c.pins_of.ensures ∙ ap (pins_of t.kind) c.slot.ensures) c.if-pins_of-eq0.false in
     (grant-yes b t.kind t.mark t.page c.if-ticket-self.false (more _ _ out few), found.0, found.1, few)
   where

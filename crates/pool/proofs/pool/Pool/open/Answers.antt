@@ -14,11 +14,6 @@ returns g c =
     let free : (k : ℕ) → at n F k ≡ _ = λ k. at_free n F k c.new.ensures in
     record {
       opened = record {
-        sound = λ v. record {
-          below = v;
-          tied = tied-free n F row _ _ c.new.ensures c.restart.ensures.resident c.restart.ensures.size;
-          counts = omega arith;
-        };
         device = refl;
         book = same-book _ _ refl c.restart.ensures.bound refl refl
             (λ k. ap (λ (o : Option Frame). shown o (row k)) (free k))
