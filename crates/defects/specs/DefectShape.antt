@@ -34,6 +34,5 @@ abbrev pub defect_of : {D : Type 0} → device.Ghosts D → device.Ghosts (Defec
 defect_of d = record {
   size = λ s. d.size s.below;
   row = λ s. defect_row s.marks (d.row s.below);
-  valid = λ s. d.valid s.below;
-  shaped = λ s v. defect_shaped s.marks (d.size s.below) (d.row s.below) (d.shaped s.below v);
+  shaped = λ s. defect_shaped s.marks (d.size s.below) (d.row s.below) (d.shaped s.below);
 }

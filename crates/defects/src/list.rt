@@ -20,7 +20,6 @@ impl<D: Device> DefectList<D> {
     pub fn new(below: D) -> DefectList<D>
         ensures below { result.below ≡ below }
         ensures marks { result.marks ≡ unmarked }
-        ensures valid { D.Device.valid below → (defect_of D.Device).valid result }
     {
         DefectList {
             below,
@@ -30,7 +29,7 @@ impl<D: Device> DefectList<D> {
 
     // Marks a page. Marking it twice keeps the worse mark.
     pub fn mark(&mut self, page: u32, defect: Defect) -> Result<(), Refusal>
-        ensures { D.Device.valid self.old.below → DidMark D.Device self.old page defect result self.new }
+        ensures { DidMark D.Device self.old page defect result self.new }
     {
         if page >= self.below.count() {
             return Err(Refusal::NoSuchPage);
@@ -56,8 +55,6 @@ impl<D: Device> Device for DefectList<D> {
     ghost size = { (defect_of D.Device).size };
 
     ghost row = { (defect_of D.Device).row };
-
-    ghost valid = { (defect_of D.Device).valid };
 
     ghost shaped = { (defect_of D.Device).shaped };
 

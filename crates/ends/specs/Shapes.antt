@@ -49,14 +49,12 @@ abbrev pub memory_of : device.Ghosts Memory
 memory_of = record {
   size = λ s. pages_in (length s.bytes.now);
   row = λ s. memory_row s.bytes.now;
-  valid = λ _. Unit {0};
-  shaped = λ s _. memory_shaped s.bytes.now;
+  shaped = λ s. memory_shaped s.bytes.now;
 }
 
 abbrev pub archive_of : device.Ghosts Archive
 archive_of = record {
   size = λ s. pages_in (length s.bytes.now);
   row = λ s. archive_row s.bytes.now;
-  valid = λ _. Unit {0};
-  shaped = λ s _. archive_shaped s.bytes.now;
+  shaped = λ s. archive_shaped s.bytes.now;
 }

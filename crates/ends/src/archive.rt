@@ -14,8 +14,7 @@ pub struct Archive<'a> {
 
 impl<'a> Archive<'a> {
     pub fn new(bytes: &'a [u8]) -> Archive<'a>
-        ensures bytes { result.bytes.now ≡ bytes.now }
-        ensures valid { archive_of.valid result }
+        ensures { result.bytes.now ≡ bytes.now }
     {
         Archive { bytes }
     }
@@ -25,8 +24,6 @@ impl<'a> Device for Archive<'a> {
     ghost size = { archive_of.size };
 
     ghost row = { archive_of.row };
-
-    ghost valid = { archive_of.valid };
 
     ghost shaped = { archive_of.shaped };
 

@@ -18,7 +18,6 @@ impl<'a> Memory<'a> {
     pub fn new(bytes: &'a mut [u8]) -> Memory<'a>
         ensures bytes { result.bytes.now ≡ bytes.old }
         ensures named { result.bytes.ghost_name ≡ bytes.entry.ghost_name }
-        ensures valid { memory_of.valid result }
     {
         Memory { bytes }
     }
@@ -64,8 +63,6 @@ impl<'a> Device for Memory<'a> {
 
     ghost row = { memory_of.row };
 
-    ghost valid = { memory_of.valid };
-
     ghost shaped = { memory_of.shaped };
 
     fn count(&self) -> u32 {
@@ -80,7 +77,7 @@ impl<'a> Device for Memory<'a> {
     }
 
     fn read(&mut self, page: u32, buffer: &mut [u8; 512]) -> Result<(), Refusal>
-        ensures did { Unit {0} → DidRead (pages_in (length self.old.bytes.now)) (memory_row self.old.bytes.now) page buffer.old result (Unit {0}) (pages_in (length self.new.bytes.now)) (memory_row self.new.bytes.now) buffer.new }
+        ensures did { DidRead (pages_in (length self.old.bytes.now)) (memory_row self.old.bytes.now) page buffer.old result (pages_in (length self.new.bytes.now)) (memory_row self.new.bytes.now) buffer.new }
         ensures bytes { self.new.bytes.now ≡ self.old.bytes.now }
         ensures named { self.new.bytes.ghost_name ≡ self.old.bytes.ghost_name }
     {
@@ -92,7 +89,7 @@ impl<'a> Device for Memory<'a> {
     }
 
     fn write(&mut self, page: u32, bytes: &[u8; 512]) -> Result<(), Refusal>
-        ensures did { Unit {0} → DidWrite (pages_in (length self.old.bytes.now)) (memory_row self.old.bytes.now) page bytes.now result (Unit {0}) (pages_in (length self.new.bytes.now)) (memory_row self.new.bytes.now) }
+        ensures did { DidWrite (pages_in (length self.old.bytes.now)) (memory_row self.old.bytes.now) page bytes.now result (pages_in (length self.new.bytes.now)) (memory_row self.new.bytes.now) }
         ensures tail { tail_of self.new.bytes.now ≡ tail_of self.old.bytes.now }
         ensures named { self.new.bytes.ghost_name ≡ self.old.bytes.ghost_name }
     {

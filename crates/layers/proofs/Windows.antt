@@ -40,19 +40,17 @@ module _ (f l n : ℕ) (r : Row) where
   pub window_there : (k : ℕ) → k < l → window_row f l r k ≡ up_at (r (f + k))
   window_there k h = cond-true (ltb k l) (up_at (r (f + k))) None (lt-ltb k l h)
 
-  module _ (n' : ℕ) (r' : Row) (p q : ℕ) (e : q ≡ f + p) (h : p < l) (a b : Result (Unit {0}) Refusal) (up : b ≡ raised_result a) (V : Type 0) where
-    pub window_did_read : (old new : List ℕ) → DidRead n r q old a V n' r' new → DidRead (window_size f l n) (window_row f l r) p old b V (window_size f l n') (window_row f l r') new
+  module _ (n' : ℕ) (r' : Row) (p q : ℕ) (e : q ≡ f + p) (h : p < l) (a b : Result (Unit {0}) Refusal) (up : b ≡ raised_result a) where
+    pub window_did_read : (old new : List ℕ) → DidRead n r q old a n' r' new → DidRead (window_size f l n) (window_row f l r) p old b (window_size f l n') (window_row f l r') new
     window_did_read old new d = record {
-      valid = d.valid;
       size = ap (window_size f l) d.size;
       row = λ k. ap (λ o. cond (ltb k l) (up_at o) None) (d.row (f + k));
       answer = up ∙ ap raised_result (d.answer ∙ ap (λ k. read_at (r k)) e) ∙ sym (read_up (r (f + p))) ∙ ap read_at (sym (window_there p h));
       buffer = d.buffer ∙ ap (λ k. filled_at (r k) old) e ∙ sym (filled_up (r (f + p)) old) ∙ ap (λ o. filled_at o old) (sym (window_there p h));
     }
 
-    pub window_did_write : (bs : List ℕ) → DidWrite n r q bs a V n' r' → DidWrite (window_size f l n) (window_row f l r) p bs b V (window_size f l n') (window_row f l r')
+    pub window_did_write : (bs : List ℕ) → DidWrite n r q bs a n' r' → DidWrite (window_size f l n) (window_row f l r) p bs b (window_size f l n') (window_row f l r')
     window_did_write bs d = record {
-      valid = d.valid;
       size = ap (window_size f l) d.size;
       row = λ k.
           ap (λ o. cond (ltb k l) (up_at o) None) (d.row (f + k))

@@ -30,6 +30,5 @@ abbrev pub join_of : {F S : Type 0} → device.Ghosts F → device.Ghosts S → 
 join_of f s = record {
   size = λ j. join_size (f.size j.first) (s.size j.second);
   row = λ j. join_row (f.size j.first) (f.row j.first) (s.row j.second);
-  valid = λ j. f.valid j.first × s.valid j.second;
-  shaped = λ j v. join_shaped (f.size j.first) (s.size j.second) (f.row j.first) (s.row j.second) (f.shaped j.first v.0) (s.shaped j.second v.1);
+  shaped = λ j. join_shaped (f.size j.first) (s.size j.second) (f.row j.first) (s.row j.second) (f.shaped j.first) (s.shaped j.second);
 }

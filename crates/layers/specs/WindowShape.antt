@@ -28,6 +28,5 @@ abbrev pub window_of : {D : Type 0} → device.Ghosts D → device.Ghosts (Windo
 window_of d = record {
   size = λ w. window_size w.first w.length (d.size w.below);
   row = λ w. window_row w.first w.length (d.row w.below);
-  valid = λ w. d.valid w.below;
-  shaped = λ w v. window_shaped w.first w.length (d.size w.below) (d.row w.below) (d.shaped w.below v);
+  shaped = λ w. window_shaped w.first w.length (d.size w.below) (d.row w.below) (d.shaped w.below);
 }

@@ -18,7 +18,6 @@ impl<F: Device, S: Device> Join<F, S> {
     pub fn new(first: F, second: S) -> Join<F, S>
         ensures first { result.first ≡ first }
         ensures second { result.second ≡ second }
-        ensures valid { F.Device.valid first → S.Device.valid second → (join_of F.Device S.Device).valid result }
     {
         Join { first, second }
     }
@@ -37,8 +36,6 @@ impl<F: Device, S: Device> Device for Join<F, S> {
     ghost size = { (join_of F.Device S.Device).size };
 
     ghost row = { (join_of F.Device S.Device).row };
-
-    ghost valid = { (join_of F.Device S.Device).valid };
 
     ghost shaped = { (join_of F.Device S.Device).shaped };
 

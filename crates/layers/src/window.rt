@@ -18,7 +18,6 @@ impl<D: Device> Window<D> {
         ensures below { result.below ≡ below }
         ensures first { result.first ≡ first }
         ensures length { result.length ≡ length }
-        ensures valid { D.Device.valid below → (window_of D.Device).valid result }
     {
         Window {
             below,
@@ -57,8 +56,6 @@ impl<D: Device> Device for Window<D> {
     ghost size = { (window_of D.Device).size };
 
     ghost row = { (window_of D.Device).row };
-
-    ghost valid = { (window_of D.Device).valid };
 
     ghost shaped = { (window_of D.Device).shaped };
 

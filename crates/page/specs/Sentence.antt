@@ -20,19 +20,19 @@ reason_of PastPageEnd = codes "the bytes would reach past the end of the page"
 reason_of NoPlace = codes "the list has no free place"
 reason_of PastLength = codes "the place is not below the length of the list"
 
--- What is said of an origin.
-abbrev pub placed : Origin → List ℕ
-placed o = codes "origin page " ++ (decimal o.page ++ (codes ", depth " ++ decimal o.depth))
+-- An origin in words.
+abbrev pub origin_words : Origin → List ℕ
+origin_words o = codes "origin page " ++ (decimal o.page ++ (codes ", depth " ++ decimal o.depth))
 
-abbrev pub in_brackets : List ℕ → List ℕ
-in_brackets text = codes " (" ++ (text ++ codes ")")
+abbrev pub placed : Origin → List ℕ
+placed o = codes " (" ++ (origin_words o ++ codes ")")
 
 -- The origin, where the refusal has one.
 abbrev pub origin_of : Refusal → List ℕ
 origin_of FrameCount = []
 origin_of NoSuchPage = []
-origin_of (LostPage o) = in_brackets (placed o)
-origin_of (WornPage o) = in_brackets (placed o)
+origin_of (LostPage o) = placed o
+origin_of (WornPage o) = placed o
 origin_of ClockFull = []
 origin_of PageFull = []
 origin_of NoFrame = []

@@ -1,5 +1,5 @@
 ghost use Rattle.std.specs.Prelude.{◌≡◌, Some};
-ghost use Rattle.page.specs.Sentence.{placed, reason_of, sentence, word_of};
+ghost use Rattle.page.specs.Sentence.{origin_words, reason_of, sentence, word_of};
 
 use crate::origin::Origin;
 use crate::refusal::Refusal;
@@ -29,7 +29,7 @@ impl Refusal {
 
 // The page and the depth, as a refusal tells them.
 impl fmt::Display for Origin {
-    ghost output = { λ o. Some (placed o) };
+    ghost output = { λ o. Some (origin_words o) };
 
     fn fmt<W: fmt::Write>(&self, f: &mut fmt::Formatter<W>) -> fmt::Result {
         let Origin { page, depth } = *self;

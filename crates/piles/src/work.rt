@@ -13,7 +13,7 @@ pub fn work_pile<D: Device, E: Device>(
     other: u32,
     buffer: &mut [u8; 512],
 ) -> (Result<(), Refusal>, Result<(), Refusal>)
-    ensures { (pile_of D.Device E.Device).valid pile.old → PileTold D.Device E.Device pile.old page bytes.now other buffer.old result.0 result.1 pile.new buffer.new }
+    ensures { PileTold D.Device E.Device pile.old page bytes.now other buffer.old result.0 result.1 pile.new buffer.new }
 {
     write_then_read(pile, page, bytes, other, buffer)
 }

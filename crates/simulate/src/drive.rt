@@ -1,4 +1,4 @@
-use crate::problem::{Difference, Mismatch, Problem, Stop};
+use crate::problem::{Mismatch, Problem, Stop};
 use crate::random::Random;
 use crate::settings::Settings;
 use crate::simulator::Simulator;
@@ -6,11 +6,36 @@ use crate::times::Watch;
 use crate::workload::Source;
 use policy::Policy;
 use std::alloc::{AllocError, Global};
+use std::fmt;
 
-#[derive(Clone, Copy)]
+// What references came to.
+#[derive(Clone, Copy, Default)]
 pub(crate) struct Tally {
     pub(crate) hits: u32,
     pub(crate) fetches: u32,
+}
+
+impl Tally {
+    // Counts a reference, which was a hit or a fetch.
+    fn count(&mut self, hit: bool) {
+        if hit {
+            self.hits = self.hits.saturating_add(1);
+        } else {
+            self.fetches = self.fetches.saturating_add(1);
+        }
+    }
+
+    pub(crate) fn add(&mut self, other: Tally) {
+        self.hits = self.hits.saturating_add(other.hits);
+        self.fetches = self.fetches.saturating_add(other.fetches);
+    }
+}
+
+impl fmt::Display for Tally {
+    fn fmt<W: fmt::Write>(&self, f: &mut fmt::Formatter<W>) -> fmt::Result {
+        let Tally { hits, fetches } = *self;
+        write!(f, "{hits} hits, {fetches} fetches")
+    }
 }
 
 // The pages in the frames, and what is needed to list them.
@@ -32,10 +57,8 @@ impl Pool {
             self.frames.push(page)?;
             return Ok(());
         };
-        for place in self.frames.iter_mut() {
-            if *place == gone {
-                *place = page;
-            }
+        if let Some(place) = self.frames.iter_mut().find(|place| **place == gone) {
+            *place = page;
         }
         Ok(())
     }
@@ -105,28 +128,15 @@ pub(crate) fn drive<P: Policy, S: Simulator<P>>(
     };
     let mut source = Source::new(settings.workload, settings.frames, settings.seed);
     let mut watch = Watch::new(settings.times, settings.seed);
-    let mut tally = Tally {
-        hits: 0,
-        fetches: 0,
-    };
+    let mut tally = Tally::default();
     policy.restart();
-    for i in 0..settings.references {
+    for reference in 1..=settings.references {
         let page = source.page();
         let t = watch.tick();
-        let reference = i + 1;
-        match refer(&mut pool, policy, simulator, page, t) {
-            Ok(true) => tally.hits = tally.hits.saturating_add(1),
-            Ok(false) => tally.fetches = tally.fetches.saturating_add(1),
-            Err(Stop::Memory) => return Err(Problem::Memory),
-            Err(Stop::Differs(what)) => {
-                let at = Difference {
-                    what,
-                    reference,
-                    page,
-                };
-                return Err(Problem::Differs(settings, at));
-            }
-        }
+        let hit = refer(&mut pool, policy, simulator, page, t).map_err(|stop| stop.at(
+            settings, reference, page,
+        ))?;
+        tally.count(hit);
     }
     Ok(tally)
 }

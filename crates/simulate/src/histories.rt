@@ -1,16 +1,28 @@
 // LRU-2 from its rules: the times of each resident page, and those of the pages that left last.
-use crate::simulator::Simulator;
+use crate::simulator::{Simulator, take_out};
 use blocks::Block;
 use lru_two::LruTwo;
 use policy::FrameCount;
 use std::alloc::{AllocError, Global};
 
-#[derive(Clone, Copy)]
+// The simulator shares no type with the policy that it judges; only agrees() looks at blocks.
+#[derive(Clone, Copy, PartialEq, Eq)]
 struct History {
     page: u32,
     hist1: u32,
     hist2: u32,
     last: u32,
+}
+
+impl From<Block> for History {
+    fn from(block: Block) -> History {
+        History {
+            page: block.page,
+            hist1: block.hist1,
+            hist2: block.hist2,
+            last: block.last,
+        }
+    }
 }
 
 impl History {
@@ -24,11 +36,13 @@ impl History {
         (self.hist2, self.last, self.page)
     }
 
-    fn is(self, block: &Block) -> bool {
-        self.page == block.page
-            && self.hist1 == block.hist1
-            && self.hist2 == block.hist2
-            && self.last == block.last
+    // A reference to the page.
+    fn note(&mut self, t: u32, crp: u32) {
+        if self.is_outside(t, crp) {
+            self.hist2 = self.hist1;
+            self.hist1 = t;
+        }
+        self.last = t;
     }
 }
 
@@ -40,28 +54,15 @@ pub(crate) struct Histories {
     most: usize,
 }
 
-// Takes the history of a page out of a list.
-fn take_out(list: &mut Vec<History>, page: u32) -> Option<History> {
-    let mut place = list.len();
-    for (i, history) in list.iter().enumerate() {
-        if history.page == page {
-            place = i;
-        }
-    }
-    if place < list.len() {
-        return Some(list.remove(place));
-    }
-    None
-}
-
-// Whether a history is that of one of the blocks.
-fn is_among(history: History, blocks: &[Block]) -> bool {
-    for block in blocks {
-        if history.is(block) {
-            return true;
-        }
-    }
-    false
+// The page of the history that leaves first, among listed pages that a test accepts.
+fn first<F: Fn(&History) -> bool>(histories: &[History], listed: &[u32], accepts: F) -> Option<u32>
+    requires { F.IsAlwaysCallable accepts }
+{
+    histories
+        .iter()
+        .filter(|history| listed.contains(&history.page) && accepts(history))
+        .min_by_key(|history| history.rank())
+        .map(|history| history.page)
 }
 
 impl Histories {
@@ -74,69 +75,52 @@ impl Histories {
         }
     }
 
-    // The first listed page to leave; where only those outside count, there may be none.
-    fn first(&self, listed: &[u32], t: u32, outside_only: bool) -> Option<u32> {
-        let mut first: Option<History> = None;
-        for history in self.resident.iter() {
-            let counts = !outside_only || history.is_outside(t, self.crp);
-            if counts && listed.contains(&history.page) {
-                first = match first {
-                    Some(other) if other.rank() < history.rank() => Some(other),
-                    _ => Some(*history),
-                };
-            }
-        }
-        match first {
-            Some(history) => Some(history.page),
-            None => None,
-        }
-    }
-
+    // The policy keeps its blocks in an order of its own.
     fn resident_agree(&self, blocks: &[Block]) -> bool {
-        for history in self.resident.iter() {
-            if !is_among(*history, blocks) {
-                return false;
-            }
-        }
         self.resident.len() == blocks.len()
+            && self.resident.iter().all(|history| blocks
+                .iter()
+                .any(|block| *history == History::from(*block)))
     }
 
     fn retained_agree(&self, blocks: &[Block]) -> bool {
-        for (history, block) in self.retained.iter().zip(blocks.iter()) {
-            if !history.is(block) {
-                return false;
-            }
-        }
         self.retained.len() == blocks.len()
+            && self
+                .retained
+                .iter()
+                .zip(blocks.iter())
+                .all(|(history, block)| *history == History::from(*block))
     }
 }
 
 impl Simulator<LruTwo> for Histories {
     fn hit(&mut self, page: u32, t: u32) -> Result<bool, AllocError> {
         let crp = self.crp;
-        let mut found = false;
-        for history in self.resident.iter_mut() {
-            if history.page == page {
-                if history.is_outside(t, crp) {
-                    history.hist2 = history.hist1;
-                    history.hist1 = t;
-                }
-                history.last = t;
-                found = true;
-            }
-        }
-        Ok(found)
+        let Some(history) = self
+            .resident
+            .iter_mut()
+            .find(|history| history.page == page)
+        else {
+            return Ok(false);
+        };
+        history.note(t, crp);
+        Ok(true)
     }
 
     fn victim(&self, listed: &[u32], t: u32) -> Option<u32> {
-        self.first(listed, t, true).or(self.first(listed, t, false))
+        let crp = self.crp;
+        first(&self.resident, listed, |history| history.is_outside(t, crp)).or(first(
+            &self.resident,
+            listed,
+            |_history| true,
+        ))
     }
 
     fn admit(&mut self, page: u32, leaving: Option<u32>, t: u32) -> Result<(), AllocError> {
-        let hist2 = match take_out(&mut self.retained, page) {
-            Some(history) => history.hist1,
-            None => 0,
-        };
+        let hist2 = take_out(&mut self.retained, |history| history.page == page).map_or(
+            0,
+            |history| history.hist1,
+        );
         self.resident.push(History {
             page,
             hist1: t,
@@ -146,7 +130,7 @@ impl Simulator<LruTwo> for Histories {
         let Some(gone) = leaving else {
             return Ok(());
         };
-        if let Some(history) = take_out(&mut self.resident, gone) {
+        if let Some(history) = take_out(&mut self.resident, |history| history.page == gone) {
             self.retained.insert(0, history)?;
             self.retained.truncate(self.most);
         }

@@ -3,7 +3,7 @@ use std::alloc::{AllocError, Global};
 use std::fmt;
 
 // Which pages are listed for a choice: a page that is held is not.
-#[derive(Clone, Copy)]
+#[derive(Clone, Copy, Debug)]
 pub enum Listing {
     All,
     ThirdHeld,
@@ -11,14 +11,16 @@ pub enum Listing {
     Muddled,
 }
 
+const LISTINGS: [Listing; 4] = [
+    Listing::All,
+    Listing::ThirdHeld,
+    Listing::One,
+    Listing::Muddled,
+];
+
 impl Listing {
     pub(crate) fn numbered(number: u32) -> Listing {
-        match number % 4 {
-            0 => Listing::All,
-            1 => Listing::ThirdHeld,
-            2 => Listing::One,
-            _ => Listing::Muddled,
-        }
+        LISTINGS[number as usize % 4]
     }
 
     // The listed pages, of those in the frames, as another page is asked for.
@@ -51,32 +53,27 @@ impl fmt::Display for Listing {
 
 // All but every third page.
 fn third_held(heap: Global, frames: &[u32], held: usize) -> Result<Vec<u32>, AllocError> {
-    let mut listed = Vec::new(heap);
-    for (i, resident) in frames.iter().enumerate() {
-        if i % 3 != held {
-            listed.push(*resident)?;
-        }
-    }
-    Ok(listed)
+    frames
+        .iter()
+        .enumerate()
+        .filter(|(i, _resident)| *i % 3 != held)
+        .map(|(_i, resident)| *resident)
+        .collect(heap)
 }
 
-// One page alone.
+// One page alone, if there is one.
 fn one(heap: Global, frames: &[u32], draw: usize) -> Result<Vec<u32>, AllocError> {
-    let mut listed = Vec::new(heap);
-    if frames.len() > 0 {
-        listed.push(frames[draw % frames.len()])?;
+    if frames.is_empty() {
+        return Ok(Vec::new(heap));
     }
-    Ok(listed)
+    Ok(vec![in heap; frames[draw % frames.len()]]?)
 }
 
 // All pages backward, each twice, with pages between them that are not resident.
 fn muddled(heap: Global, frames: &[u32], page: u32) -> Result<Vec<u32>, AllocError> {
-    let mut listed = Vec::new(heap);
-    for resident in frames.iter().rev() {
-        listed.push(page)?;
-        listed.push(*resident)?;
-        listed.push(resident.wrapping_add(100000))?;
-        listed.push(*resident)?;
-    }
-    Ok(listed)
+    frames
+        .iter()
+        .rev()
+        .flat_map(|resident| [page, *resident, resident.wrapping_add(100000), *resident])
+        .collect(heap)
 }

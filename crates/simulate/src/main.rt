@@ -13,14 +13,16 @@ mod simulator;
 mod times;
 mod workload;
 
-use anyhow::anyhow;
+use anyhow::bail;
 use drive::{Tally, drive};
 use histories::Histories;
 use lru_two::LruTwo;
-use policy::FrameCount;
+use policy::{FrameCount, Policy};
 use problem::Problem;
 use queues::Queues;
 use settings::{Settings, Subject};
+use simulator::Simulator;
+use std::fmt;
 use two_q::TwoQ;
 use workload::WORKLOADS;
 
@@ -29,99 +31,104 @@ const FRAMES: [u32; 4] = [4, 7, 16, 64];
 const PERIODS: [u16; 3] = [0, 3, 50];
 
 // What all runs so far came to.
-#[derive(Drop)]
+#[derive(Clone, Copy, Default)]
 struct Totals {
     runs: u32,
     references: u32,
-    hits: u32,
-    fetches: u32,
+    tally: Tally,
 }
 
 impl Totals {
     // Counts a run, and prints its line.
     fn add(&mut self, rt: &HostRuntime, settings: Settings, tally: Tally) -> Result<(), Problem> {
-        let hits = tally.hits;
-        let fetches = tally.fetches;
         self.runs = self.runs.saturating_add(1);
         self.references = self.references.saturating_add(settings.references);
-        self.hits = self.hits.saturating_add(hits);
-        self.fetches = self.fetches.saturating_add(fetches);
-        let agree = match settings.subject {
-            Subject::TwoQ => "lists",
-            Subject::LruTwo(_) => "blocks",
-        };
-        println!(rt; "{settings}: {hits} hits, {fetches} fetches, {agree} and victims agree")?;
+        self.tally.add(tally);
+        let memory = settings.subject.memory();
+        println!(rt; "{settings}: {tally}, {memory} and victims agree")?;
         Ok(())
     }
 }
 
-// One policy through every workload, restarted for each.
-fn run_two_q(rt: &HostRuntime, totals: &mut Totals, frames: FrameCount) -> Result<(), Problem> {
-    let mut policy = TwoQ::new(frames);
-    for workload in WORKLOADS {
-        let settings = Settings::numbered(Subject::TwoQ, frames, workload, totals.runs);
-        let mut simulator = Queues::new(rt.alloc(), frames);
-        let tally = drive(rt.alloc(), settings, &mut policy, &mut simulator)?;
-        totals.add(rt, settings, tally)?;
+impl fmt::Display for Totals {
+    fn fmt<W: fmt::Write>(&self, f: &mut fmt::Formatter<W>) -> fmt::Result {
+        let Totals {
+            runs,
+            references,
+            tally,
+        } = *self;
+        write!(f, "{runs} runs, {references} references: {tally}")
     }
-    Ok(())
 }
 
-// The same with a correlated reference period.
-fn run_lru_two(
+// One policy through every workload, restarted for each, beside a new simulator for each.
+fn run_policy<P: Policy, S: Simulator<P> + Drop, F: Fn() -> S>(
     rt: &HostRuntime,
     totals: &mut Totals,
+    subject: Subject,
     frames: FrameCount,
-    crp: u16,
-) -> Result<(), Problem> {
-    let mut policy = LruTwo::new(frames, crp);
+    policy: &mut P,
+    new_simulator: F,
+) -> Result<(), Problem>
+    requires { F.IsAlwaysCallable new_simulator }
+{
     for workload in WORKLOADS {
-        let settings = Settings::numbered(Subject::LruTwo(crp), frames, workload, totals.runs);
-        let mut simulator = Histories::new(rt.alloc(), frames, crp);
-        let tally = drive(rt.alloc(), settings, &mut policy, &mut simulator)?;
+        let settings = Settings::numbered(subject, frames, workload, totals.runs);
+        let mut simulator = new_simulator();
+        let tally = drive(rt.alloc(), settings, policy, &mut simulator)?;
         totals.add(rt, settings, tally)?;
     }
     Ok(())
 }
 
-fn frame_count(number: u32) -> Result<FrameCount, Problem> {
-    match FrameCount::new(number) {
-        Ok(frames) => Ok(frames),
-        Err(_) => Err(Problem::Frames),
+// A subject is run as the policy that it names, beside the simulator of the same rules.
+fn run_subject(
+    rt: &HostRuntime,
+    totals: &mut Totals,
+    subject: Subject,
+    number: u32,
+) -> Result<(), Problem> {
+    let frames = FrameCount::new(number).map_err(|_refusal| Problem::Frames)?;
+    let heap = rt.alloc();
+    match subject {
+        Subject::TwoQ => {
+            let mut policy = TwoQ::new(frames);
+            run_policy(
+                rt,
+                totals,
+                subject,
+                frames,
+                &mut policy,
+                || Queues::new(heap, frames),
+            )
+        }
+        Subject::LruTwo(crp) => {
+            let mut policy = LruTwo::new(frames, crp);
+            run_policy(rt, totals, subject, frames, &mut policy, || {
+                Histories::new(heap, frames, crp)
+            })
+        }
     }
 }
 
 fn run(rt: &HostRuntime) -> Result<(), Problem> {
-    let mut totals = Totals {
-        runs: 0,
-        references: 0,
-        hits: 0,
-        fetches: 0,
-    };
+    let mut totals = Totals::default();
     for number in FRAMES {
-        run_two_q(rt, &mut totals, frame_count(number)?)?;
+        run_subject(rt, &mut totals, Subject::TwoQ, number)?;
     }
     for number in FRAMES {
         for crp in PERIODS {
-            run_lru_two(rt, &mut totals, frame_count(number)?, crp)?;
+            run_subject(rt, &mut totals, Subject::LruTwo(crp), number)?;
         }
     }
-    let runs = totals.runs;
-    let references = totals.references;
-    let hits = totals.hits;
-    let fetches = totals.fetches;
-    println!(rt;
-        "{runs} runs, {references} references: {hits} hits, {fetches} fetches, and everything agrees"
-    )?;
+    println!(rt; "{totals}, and everything agrees")?;
     Ok(())
 }
 
 fn main(rt: HostRuntime) -> anyhow::Result<()> {
-    match run(&rt) {
-        Ok(()) => Ok(()),
-        Err(problem) => {
-            eprintln!(rt; "simulate: {problem}")?;
-            Err(anyhow!("the simulation ended early"))
-        }
+    if let Err(problem) = run(&rt) {
+        eprintln!(rt; "simulate: {problem}")?;
+        bail!("the simulation ended early");
     }
+    Ok(())
 }

@@ -1,92 +1,65 @@
 use crate::settings::Settings;
-use std::alloc::{AllocError, AllocFailed};
-use std::{fmt, io};
+use std::alloc::AllocError;
+use std::io;
+use thiserror::Error;
 
 // In what a policy and its simulator differ, or what the policy fails to do.
-#[derive(Clone, Copy)]
+#[derive(Clone, Copy, Debug, Error)]
 pub enum Mismatch {
+    #[error("the policy and the simulator differ on a hit")]
     Hit,
+    #[error("the victims differ")]
     Victim,
+    #[error("neither has a victim")]
     NoVictim,
+    #[error("the policy does not admit the page")]
     Refused,
+    #[error("what is remembered differs")]
     Remembered,
 }
 
-impl fmt::Display for Mismatch {
-    fn fmt<W: fmt::Write>(&self, f: &mut fmt::Formatter<W>) -> fmt::Result {
-        match self {
-            Mismatch::Hit => write!(f, "the policy and the simulator differ on a hit"),
-            Mismatch::Victim => write!(f, "the victims differ"),
-            Mismatch::NoVictim => write!(f, "neither has a victim"),
-            Mismatch::Refused => write!(f, "the policy does not admit the page"),
-            Mismatch::Remembered => write!(f, "what is remembered differs"),
-        }
-    }
-}
-
 // Why a reference came to nothing.
-#[derive(Clone, Copy)]
+#[derive(Clone, Copy, Debug)]
 pub enum Stop {
     Differs(Mismatch),
-    Memory,
+    Memory(AllocError),
 }
 
 impl From<AllocError> for Stop {
-    fn from(_error: AllocError) -> Stop {
-        Stop::Memory
+    fn from(error: AllocError) -> Stop {
+        Stop::Memory(error)
     }
 }
 
-// Where a policy and its simulator differ.
-#[derive(Clone, Copy)]
-pub struct Difference {
-    pub what: Mismatch,
-    pub reference: u32,
-    pub page: u32,
+impl Stop {
+    // The problem that a stop at a reference to a page is.
+    pub(crate) fn at(self, settings: Settings, reference: u32, page: u32) -> Problem {
+        match self {
+            Stop::Differs(what) => Problem::Differs {
+                settings,
+                reference,
+                page,
+                what,
+            },
+            Stop::Memory(error) => Problem::Memory(error),
+        }
+    }
 }
 
 // Why the program ended early.
-#[derive(Drop)]
+#[derive(Debug, Drop, Error)]
 pub enum Problem {
-    Differs(Settings, Difference),
+    #[error("{settings}: reference {reference}, to page {page}: {what}")]
+    Differs {
+        settings: Settings,
+        reference: u32,
+        page: u32,
+        what: Mismatch,
+    },
+    #[error("a frame count is refused")]
     Frames,
-    Output(io::Error),
-    Memory,
-}
-
-impl From<io::Error> for Problem {
-    fn from(error: io::Error) -> Problem {
-        Problem::Output(error)
-    }
-}
-
-impl From<AllocError> for Problem {
-    fn from(_error: AllocError) -> Problem {
-        Problem::Memory
-    }
-}
-
-impl<T: Drop> From<AllocFailed<T>> for Problem {
-    fn from(_error: AllocFailed<T>) -> Problem {
-        Problem::Memory
-    }
-}
-
-impl fmt::Display for Problem {
-    fn fmt<W: fmt::Write>(&self, f: &mut fmt::Formatter<W>) -> fmt::Result {
-        match self {
-            Problem::Differs(settings, at) => {
-                let what = at.what;
-                let reference = at.reference;
-                let page = at.page;
-                write!(
-                    f,
-                    "{settings}: reference {reference}, to page {page}: {what}"
-                )
-            }
-            Problem::Frames => write!(f, "a frame count is refused"),
-            Problem::Output(error) => write!(f, "nothing can be printed: {error}"),
-            Problem::Memory => write!(f, "there is not enough memory"),
-        }
-    }
+    #[error("nothing can be printed: {0}")]
+    Output(#[from] io::Error),
+    #[error("there is not enough memory")]
+    Memory(#[from(alloc)] AllocError),
 }

@@ -1,5 +1,5 @@
 // Full 2Q from its rules: two lists of resident pages and one of pages that left, heads first.
-use crate::simulator::Simulator;
+use crate::simulator::{Simulator, take_out};
 use policy::FrameCount;
 use std::alloc::{AllocError, Global};
 use two_q::TwoQ;
@@ -25,35 +25,18 @@ impl Queues {
     }
 }
 
-// Takes a page out of a list, and says whether it was there.
-fn take_out(list: &mut Vec<u32>, page: u32) -> bool {
-    let mut place = list.len();
-    for (i, other) in list.iter().enumerate() {
-        if *other == page {
-            place = i;
-        }
-    }
-    if place < list.len() {
-        let _ = list.remove(place);
-        return true;
-    }
-    false
-}
-
 // The listed page nearest the tail.
 fn nearest_tail(list: &[u32], listed: &[u32]) -> Option<u32> {
-    for page in list.iter().rev() {
-        if listed.contains(page) {
-            return Some(*page);
-        }
-    }
-    None
+    list.iter()
+        .rev()
+        .find(|&page| listed.contains(page))
+        .copied()
 }
 
 impl Simulator<TwoQ> for Queues {
     // A hit in A1in is not noted.
     fn hit(&mut self, page: u32, _t: u32) -> Result<bool, AllocError> {
-        if take_out(&mut self.am, page) {
+        if take_out(&mut self.am, |other| *other == page).is_some() {
             self.am.insert(0, page)?;
             return Ok(true);
         }
@@ -64,19 +47,20 @@ impl Simulator<TwoQ> for Queues {
         let of_am = nearest_tail(&self.am, listed);
         let of_a1in = nearest_tail(&self.a1in, listed);
         if self.a1in.len() > self.kin {
-            return of_a1in.or(of_am);
+            of_a1in.or(of_am)
+        } else {
+            of_am.or(of_a1in)
         }
-        of_am.or(of_a1in)
     }
 
     fn admit(&mut self, page: u32, leaving: Option<u32>, _t: u32) -> Result<(), AllocError> {
-        let known = take_out(&mut self.a1out, page);
+        let known = take_out(&mut self.a1out, |other| *other == page).is_some();
         if let Some(gone) = leaving {
-            if take_out(&mut self.a1in, gone) {
+            if take_out(&mut self.a1in, |other| *other == gone).is_some() {
                 self.a1out.insert(0, gone)?;
                 self.a1out.truncate(self.kout);
             } else {
-                let _ = take_out(&mut self.am, gone);
+                let _ = take_out(&mut self.am, |other| *other == gone);
             }
         }
         if known {

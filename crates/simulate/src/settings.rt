@@ -5,14 +5,32 @@ use policy::FrameCount;
 use std::fmt;
 
 // The policy that is run, with its correlated reference period if it has one.
-#[derive(Clone, Copy)]
+#[derive(Clone, Copy, Debug)]
 pub enum Subject {
     TwoQ,
     LruTwo(u16),
 }
 
+impl Subject {
+    // How many references a run has.
+    fn references(self) -> u32 {
+        match self {
+            Subject::TwoQ => 2000,
+            Subject::LruTwo(_) => 1250,
+        }
+    }
+
+    // What the policy remembers pages in.
+    pub(crate) fn memory(self) -> &'static str {
+        match self {
+            Subject::TwoQ => "lists",
+            Subject::LruTwo(_) => "blocks",
+        }
+    }
+}
+
 // What one run is: the policy, the frames, and what it is driven with.
-#[derive(Clone, Copy)]
+#[derive(Clone, Copy, Debug)]
 pub struct Settings {
     pub subject: Subject,
     pub frames: FrameCount,
@@ -37,10 +55,7 @@ impl Settings {
             workload,
             listing: Listing::numbered(number),
             times: Times::numbered(number),
-            references: match subject {
-                Subject::TwoQ => 2000,
-                Subject::LruTwo(_) => 1250,
-            },
+            references: subject.references(),
             seed: number.wrapping_mul(2654435761).wrapping_add(97),
         }
     }

@@ -14,3 +14,11 @@ pub(crate) trait Simulator<P> {
     // Whether the policy remembers the same.
     fn agrees(&self, policy: &P) -> bool;
 }
+
+// Takes the last entry that a test accepts out of a list.
+pub(crate) fn take_out<T, F: Fn(&T) -> bool>(list: &mut Vec<T>, accepts: F) -> Option<T>
+    requires { F.IsAlwaysCallable accepts }
+{
+    let place = list.iter().rposition(|entry| accepts(entry))?;
+    Some(list.remove(place))
+}

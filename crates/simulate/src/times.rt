@@ -2,7 +2,7 @@ use crate::random::Random;
 use std::fmt;
 
 // How time goes: by one for each reference, or also standing still, falling and jumping.
-#[derive(Clone, Copy)]
+#[derive(Clone, Copy, Debug)]
 pub enum Times {
     Steady,
     Wild,
@@ -11,9 +11,10 @@ pub enum Times {
 impl Times {
     pub(crate) fn numbered(number: u32) -> Times {
         if number % 7 < 4 {
-            return Times::Steady;
+            Times::Steady
+        } else {
+            Times::Wild
         }
-        Times::Wild
     }
 }
 

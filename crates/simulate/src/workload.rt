@@ -3,7 +3,7 @@ use policy::FrameCount;
 use std::fmt;
 
 // How the pages that are asked for follow one another.
-#[derive(Clone, Copy)]
+#[derive(Clone, Copy, Debug)]
 pub enum Workload {
     Uniform,
     Skewed,
@@ -86,8 +86,5 @@ impl Source {
 
 // A number counted round a circle.
 fn turn(number: u32, around: u32) -> u32 {
-    if around == 0 {
-        return 0;
-    }
-    number % around
+    number.checked_rem(around).unwrap_or(0)
 }

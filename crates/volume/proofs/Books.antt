@@ -28,7 +28,6 @@ all-marked s s' marks e h k =
 
 pub put_together : (batch fees archive : List ℕ) (marks : List Mark) (v : Shipped) → v.first.first.below.bytes.now ≡ batch → v.first.second.bytes.now ≡ fees → v.second.bytes.now ≡ archive → ((k : ℕ) → mark_of v.first.first.marks k ≡ worst_of k None marks) → Opened batch fees archive marks v
 put_together batch fees archive marks v b f a m = record {
-  valid = ((tt, tt), tt);
   size = λ i. join_size (join_size (pages_in (length (b i))) (pages_in (length (f i)))) (pages_in (length (a i)));
   row = λ k i.
       join_row (join_size (pages_in (length (b i))) (pages_in (length (f i))))

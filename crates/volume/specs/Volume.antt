@@ -40,9 +40,8 @@ shipped_row batch fees archive marks =
 abbrev pub shipped_size : List ℕ → List ℕ → List ℕ → ℕ
 shipped_size batch fees archive = join_size (join_size (pages_in (length batch)) (pages_in (length fees))) (pages_in (length archive))
 
--- A volume that was put together: it is a device, and its row is the shipped one.
+-- A volume that was put together: its row is the shipped one.
 pub record Opened (batch fees archive : List ℕ) (marks : List Mark) (v : Shipped) : Type 0 where
-  pub valid : shipped_of.valid v
   pub size : shipped_of.size v ≡ shipped_size batch fees archive
   pub row : (k : ℕ) → shipped_of.row v k ≡ shipped_row batch fees archive marks k
 

@@ -13,7 +13,7 @@ pub struct MarkRefused {
 
 // Makes marks one after another, up to the first that is refused.
 pub fn mark_all<D: Device>(list: &mut DefectList<D>, marks: &[Mark]) -> Result<(), MarkRefused>
-    ensures { D.Device.valid list.old.below → DidMarkAll D.Device list.old marks.now result list.new }
+    ensures { DidMarkAll D.Device list.old marks.now result list.new }
 {
     for (at, mark) in marks.iter().enumerate() {
         if let Err(refusal) = list.mark(mark.page, mark.defect) {

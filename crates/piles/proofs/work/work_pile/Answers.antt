@@ -3,7 +3,7 @@ use Rattle.piles.proofs.Down.{past_end, marked-lost, unmarked-below, other-below
 use Rattle.piles.proofs.work.work_pile.Goals as goal
 
 pub returns : goal.returns
-returns g c v =
+returns g c =
     let s = c.args.pile.now in
     let f = s.first in
     let l = s.length in
@@ -12,8 +12,8 @@ returns g c v =
     let r = g.D.Device.row s.below.first.below in
     let t = g.E.Device.row s.below.second in
     let p = c.args.page in
-    let shape = g.D.Device.shaped s.below.first.below v.0 in
-    let told = c.write_then_read.ensures v in
+    let shape = g.D.Device.shaped s.below.first.below in
+    let told = c.write_then_read.ensures in
     record {
       both = told;
       past = λ h. told.wrote ∙ past_end f l n ms r t p h;

@@ -6,12 +6,12 @@ use Rattle.defects.proofs.Places.{spot_accepts, marking}
 use Rattle.defects.proofs.list.DefectList.mark.Goals as goal
 
 pub returns : goal.returns
-returns g c v =
+returns g c =
     let ms = c.args.self.now.marks in
     let page = c.args.page in
     let i = c.in-Some.place in
     let d = c.args.defect in
-    let there : page < g.D.Device.size c.args.self.now.below = omega (arith, c.count.ensures v) in
+    let there : page < g.D.Device.size c.args.self.now.below = omega (arith, c.count.ensures) in
     let s = c.in-Some.ensures in
     let worse = c.worse_mark-defect.ensures ∙ ap (λ o. worst o d) c.mark_of.ensures in
     record {

@@ -4,4 +4,4 @@ use Rattle.defects.proofs.list.DefectList.new.Goals as goal
 
 pub returns : goal.returns
 unfolding unmarked
-returns g c = record { below = refl; marks = refl; valid = λ v. v }
+returns g c = record { below = refl; marks = refl }

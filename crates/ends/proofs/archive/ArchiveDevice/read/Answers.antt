@@ -5,13 +5,12 @@ use Rattle.ends.specs.Shapes.{archive_there}
 use Rattle.ends.proofs.archive.ArchiveDevice.read.Goals as goal
 
 pub returns : goal.returns
-returns c v =
+returns c =
     let bs = c.args.self.now.bytes.now in
     let page = c.args.page in
     let h : page < pages_in (length bs) = omega arith in
     let e = archive_there bs page h in
     record {
-      valid = tt;
       size = search rules;
       row = search rules;
       answer = ap read_at (sym e);

@@ -11,8 +11,7 @@ returns c =
     let h : page < pages_in (length bs) = omega arith in
     let there = memory_there bs page h in
     record {
-      did = λ v. record {
-        valid = tt;
+      did = record {
         size = search rules;
         row = search rules;
         answer = ap read_at (sym there);
