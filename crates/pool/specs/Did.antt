@@ -9,26 +9,22 @@ use Rattle.book.specs.Call.{Call, Answer}
 use Rattle.book.specs.Call.Call.{Fix, Read, Write, Unfix, Flush, FlushAll, Close}
 use Rattle.book.specs.Call.Answer.{Granted, Copied, Done, Refused}
 use Rattle.book.specs.Life.{Step}
-use Rattle.book.specs.declared.grant.Kind.TheVariants.{Reading, Updating}
 use Rattle.book.specs.declared.grant.Ticket.{Ticket}
 use Rattle.turns.specs.Lived.{Doing}
 use Rattle.turns.specs.Turns.{Course}
-use Rattle.pool.specs.declared.grant.ReadGrant.{ReadGrant}
-use Rattle.pool.specs.declared.grant.UpdateGrant.{UpdateGrant}
+use Rattle.pool.specs.declared.grant.Grant.{Grant}
 use Rattle.pool.specs.declared.pool.Pool.{Pool}
+use Rattle.pool.specs.declared.purpose.Purpose as purpose
 use Rattle.pool.specs.Meaning.{book, sight, course, scene}
 
 -- A grant as the book hears of it.
-abbrev pub to_read : ReadGrant → Ticket
-to_read g = record { kind = Reading; mark = g.mark; page = g.page }
-
-abbrev pub to_update : UpdateGrant → Ticket
-to_update g = record { kind = Updating; mark = g.mark; page = g.page }
+abbrev pub ticket : {K : Type 0} (k : purpose.Ghosts K) → Grant K → Ticket
+ticket k g = record { kind = k.KIND; mark = g.mark; page = g.page }
 
 -- Answers as the book gives them.
 abbrev pub granted : {G : Type 0} → (G → Ticket) → Result G Refusal → Answer
-granted ticket (Ok g) = Granted (ticket g)
-granted ticket (Err e) = Refused e
+granted told (Ok g) = Granted (told g)
+granted told (Err e) = Refused e
 
 abbrev pub copied : Result (Unit {0}) Refusal → List ℕ → Answer
 copied (Ok x) bytes = Copied bytes
@@ -39,11 +35,8 @@ done (Ok x) = Done
 done (Err e) = Refused e
 
 -- A grant that was just given.
-abbrev pub read_grant : ℕ → ℕ → ReadGrant
-read_grant mark page = record { mark = mark; page = page; spent = false }
-
-abbrev pub update_grant : ℕ → ℕ → UpdateGrant
-update_grant mark page = record { mark = mark; page = page; spent = false }
+abbrev pub given : {K : Type 0} → ℕ → ℕ → Grant K
+given mark page = record { mark = mark; page = page; spent = false; purpose = record {} }
 
 abbrev pub Gives : {G : Type 0} → Result G Refusal → G → Type 0
 Gives (Ok g) given = g ≡ given

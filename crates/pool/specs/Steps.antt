@@ -10,6 +10,7 @@ use Rattle.book.specs.Book.{Book, by_kind, is_not_lost, is_not_worn, is_granted,
 use Rattle.book.specs.Call.{Answer}
 use Rattle.book.specs.Call.Answer.{Granted, Refused}
 use Rattle.book.specs.declared.grant.Kind.{Kind}
+use Rattle.book.specs.declared.grant.Ticket.{Ticket}
 use Rattle.frames.specs.Calls.{Absent}
 use Rattle.frames.specs.Table.{Frame, frame, page_in, idle, marked, pins, pins_of, with, with_slot}
 use Rattle.frames.specs.declared.place.Place.{Place}
@@ -125,10 +126,10 @@ pub record DidAdmit {D P : Type 0} {d : device.Ghosts D} {p : policy.Ghosts P} (
   pub fetched : took.outcome ≡ Fetch v.leaving
   pub row : (q : ℕ) → d.row pool'.device q ≡ d.row pool.device q
 
--- The place of a page for which a grant of a kind is out.
-abbrev pub Out : {D P : Type 0} {d : device.Ghosts D} {p : policy.Ghosts P} → Pool D P d p → Kind → (mark page : ℕ) → Result Place Refusal → Type 0
-Out pool kind mark page (Ok i) = (is_granted (book pool) kind mark page ≡ None) × (i.index < pool.frames.used) × (page_in (frame pool.frames i.index) ≡ page) × (0 < pins_of kind (frame pool.frames i.index).slot)
-Out pool kind mark page (Err e) = is_granted (book pool) kind mark page ≡ Some e
+-- The place of a grant's page, if the grant is out.
+abbrev pub Out : {D P : Type 0} {d : device.Ghosts D} {p : policy.Ghosts P} → Pool D P d p → Ticket → Result Place Refusal → Type 0
+Out pool t (Ok i) = (is_granted (book pool) t.kind t.mark t.page ≡ None) × (i.index < pool.frames.used) × (page_in (frame pool.frames i.index) ≡ t.page) × (0 < pins_of t.kind (frame pool.frames i.index).slot)
+Out pool t (Err e) = is_granted (book pool) t.kind t.mark t.page ≡ Some e
 
 -- The answer of a fix, as the book gives it.
 abbrev pub fixed_answer : Result (Unit {0}) Refusal → Kind → (mark page : ℕ) → Answer

@@ -1,9 +1,9 @@
-use Rattle.std.proofs.Common.{◌≡◌, ℕ, Option, sym, refl, ap, arith}
+use Rattle.std.proofs.Common.{◌≡◌, ℕ, Option, sym, refl, ap}
 use Rattle.book.specs.declared.grant.Kind.TheVariants.{Reading, Updating}
 use Rattle.frames.specs.Table.{Frame, frame, at}
 use Rattle.pool.specs.Meaning.{shown, pins_at}
 use Rattle.pool.proofs.Books.{same-book, at_free}
-use Rattle.pool.proofs.Opened.{tied-free, promised}
+use Rattle.pool.proofs.Opened.{promised}
 use Rattle.pool.proofs.pool.Pool.open.Goals as goal
 
 pub returns : goal.returns

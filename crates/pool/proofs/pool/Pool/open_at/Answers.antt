@@ -1,4 +1,4 @@
-use Rattle.std.proofs.Common.{◌≡◌, sym, ap, ◌∙◌, arith}
+use Rattle.std.proofs.Common.{◌≡◌, sym, ap, ◌∙◌}
 use Rattle.book.specs.Book.{Book}
 use Rattle.turns.specs.Turns.{Course}
 use Rattle.pool.specs.Did.{at_time}

@@ -1,4 +1,4 @@
-use Rattle.std.proofs.Common.{◌≡◌, ℕ, Option, refl, ap, ◌∙◌, arith}
+use Rattle.std.proofs.Common.{◌≡◌, ℕ, Option, refl, ap, ◌∙◌}
 use Rattle.book.specs.Book.{Book}
 use Rattle.book.specs.declared.grant.Kind.TheVariants.{Reading, Updating}
 use Rattle.frames.specs.Table.{Frame, frame, at}
@@ -6,7 +6,6 @@ use Rattle.turns.specs.Turns.{Course}
 use Rattle.pool.specs.Meaning.{shown, pins_at}
 use Rattle.pool.proofs.Books.{same-book, at_free}
 use Rattle.pool.proofs.Flushing.{flushed-all}
-use Rattle.pool.proofs.Opened.{tied-free}
 use Rattle.pool.proofs.pool.Pool.renew.Goals as goal
 
 pub returns : goal.returns

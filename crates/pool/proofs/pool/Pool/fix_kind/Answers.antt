@@ -1,4 +1,4 @@
-use Rattle.std.proofs.Common.{◌≡◌, ℕ, ◌+◌, ◌<◌, ◌≤◌, Option, Result, sym, refl, ap, ◌∙◌, subst, arith}
+use Rattle.std.proofs.Common.{◌≡◌, ℕ, ◌+◌, ◌<◌, ◌≤◌, Option, Result, sym, ap, ◌∙◌, subst, arith}
 use Rattle.page.specs.declared.refusal.Refusal.{Refusal}
 use Rattle.page.specs.declared.refusal.Refusal.TheVariants.{PageFull, NoFrame}
 use Rattle.book.specs.Book.{grants, first_no}
@@ -13,7 +13,7 @@ use Rattle.pool.proofs.Asking.{early_no, full_no, room_no, room-yes, seat_yes}
 use Rattle.pool.proofs.Doings.{did-refused, did_fix, exit_err, verdict-none, verdict-some}
 use Rattle.pool.proofs.Holding.{held_all, held-some, held-vacant}
 use Rattle.pool.proofs.Places.{at_here, at_out}
-use Rattle.pool.proofs.pool.Pool.fix.Goals as goal
+use Rattle.pool.proofs.pool.Pool.fix_kind.Goals as goal
 
 -- the slot's grants are those that were counted
 slot-few : (x y : Slot) (m : ℕ) → x ≡ y → m ≡ pins x → m < 255 → pins y < 255
