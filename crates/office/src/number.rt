@@ -18,5 +18,9 @@ pub fn read_number(digits: &[u8]) -> Option<u32>
     if digits.is_empty() {
         return None;
     }
-    digits.iter().try_fold(0, |number, byte| with_digit(number, *byte))
+    let mut number = 0;
+    for byte in digits {
+        number = with_digit(number, *byte)?;
+    }
+    Some(number)
 }
