@@ -33,20 +33,20 @@ fix-refused b kind page r h = go (refusal b (Fix kind page)) h
     go None e = let z : ◌≡◌ {A = ℕ} 0 1 = cc in absurd (omega arith)
     go (Some x) e = cc
 
-module _ {D P : Type 0} (d : device.Ghosts D) (p : policy.Ghosts P) where
-  after-accepted : (pool pool' : Pool D P) (call : Call) (a : Answer) → Did d p pool call a pool' → refusal (book d p pool) call ≡ None → book d p pool' ≡ (accepted (book d p pool) call).1
-  after-accepted pool pool' call a h e = h.doing.step.after ∙ sym (next-accepted (book d p pool) call e)
+module _ {D P : Type 0} {d : device.Ghosts D} {p : policy.Ghosts P} where
+  after-accepted : (pool pool' : Pool D P d p) (call : Call) (a : Answer) → Did pool call a pool' → refusal (book pool) call ≡ None → book pool' ≡ (accepted (book pool) call).1
+  after-accepted pool pool' call a h e = h.doing.step.after ∙ sym (next-accepted (book pool) call e)
 
-  pub after-fix : (pool pool' : Pool D P) (kind : Kind) (page : ℕ) (t : Ticket) → Did d p pool (Fix kind page) (Granted t) pool' → book d p pool' ≡ with_grants (book d p pool) (pool.clock + 1) kind page (granted (book d p pool) kind page + 1)
-  after-fix pool pool' kind page t h = after-accepted pool pool' (Fix kind page) (Granted t) h (fix-accepted (book d p pool) kind page t h.doing.step.answer)
+  pub after-fix : (pool pool' : Pool D P d p) (kind : Kind) (page : ℕ) (t : Ticket) → Did pool (Fix kind page) (Granted t) pool' → book pool' ≡ with_grants (book pool) (pool.clock + 1) kind page (granted (book pool) kind page + 1)
+  after-fix pool pool' kind page t h = after-accepted pool pool' (Fix kind page) (Granted t) h (fix-accepted (book pool) kind page t h.doing.step.answer)
 
-  pub after-refusal : (pool pool' : Pool D P) (kind : Kind) (page : ℕ) (r : Refusal) → Did d p pool (Fix kind page) (Refused r) pool' → pool' ≡ pool
-  after-refusal pool pool' kind page r h = h.refused r (fix-refused (book d p pool) kind page r h.doing.step.answer)
+  pub after-refusal : (pool pool' : Pool D P d p) (kind : Kind) (page : ℕ) (r : Refusal) → Did pool (Fix kind page) (Refused r) pool' → pool' ≡ pool
+  after-refusal pool pool' kind page r h = h.refused r (fix-refused (book pool) kind page r h.doing.step.answer)
 
-  pub after_write : (pool pool' : Pool D P) (mark page offset : ℕ) (bytes : List ℕ) (a : Answer) → Did d p pool (Write mark page offset bytes) a pool' → is_granted (book d p pool) Updating mark page ≡ None → offset + length bytes ≤ 512 → book d p pool' ≡ (accepted (book d p pool) (Write mark page offset bytes)).1
+  pub after_write : (pool pool' : Pool D P d p) (mark page offset : ℕ) (bytes : List ℕ) (a : Answer) → Did pool (Write mark page offset bytes) a pool' → is_granted (book pool) Updating mark page ≡ None → offset + length bytes ≤ 512 → book pool' ≡ (accepted (book pool) (Write mark page offset bytes)).1
   after_write pool pool' mark page offset bytes a h g l = after-accepted pool pool' (Write mark page offset bytes) a h (two-yes _ _ g (le-leb (offset + length bytes) 512 l))
 
-  pub after_unfix : (pool pool' : Pool D P) (t : Ticket) (a : Answer) → Did d p pool (Unfix t) a pool' → is_granted (book d p pool) t.kind t.mark t.page ≡ None → book d p pool' ≡ (accepted (book d p pool) (Unfix t)).1
+  pub after_unfix : (pool pool' : Pool D P d p) (t : Ticket) (a : Answer) → Did pool (Unfix t) a pool' → is_granted (book pool) t.kind t.mark t.page ≡ None → book pool' ≡ (accepted (book pool) (Unfix t)).1
   after_unfix pool pool' t a h g = after-accepted pool pool' (Unfix t) a h (ap (λ (x : Option Refusal). first_no (x ∷ [])) g)
 
 -- Books with the same grants out.

@@ -4,15 +4,14 @@ use Rattle.std.proofs.lemmas.Bool.{leb-true}
 use Rattle.device.specs.Row.{Row}
 use Rattle.records.specs.Layout.{batch_of, fee_of}
 use Rattle.records.specs.declared.batch.Batch.{Batch}
-use Rattle.records.specs.declared.batch.BatchRecord.{BatchRecord}
-use Rattle.records.specs.declared.batch.BatchRecord.TheVariants as batch
+use Rattle.records.specs.declared.record.Record.{Record}
+use Rattle.records.specs.declared.record.Record.TheVariants.{Empty, Entered, Settled}
 use Rattle.records.specs.declared.fee.Fee.{Fee}
-use Rattle.records.specs.declared.fee.FeeRecord.{FeeRecord}
-use Rattle.records.specs.declared.fee.FeeRecord.TheVariants as fee
 use Rattle.records.specs.declared.malformed.Malformed.{Malformed}
 use Rattle.ledger.specs.declared.fault.Fault.{Fault}
+use Rattle.ledger.specs.declared.fault.Fault.TheVariants as fault
 use Rattle.ledger.specs.declared.spot.Spot.{Spot}
-use Rattle.ledger.specs.Answered.{fitting, open_batch, open_fee, open_pair, seen_at, then}
+use Rattle.ledger.specs.Answered.{fitting, open_batch, open_fee, open_record, open_pair, seen_at, then}
 use Rattle.ledger.specs.Settled.{Open, bytes_in}
 
 -- A batch and its fee that may be settled, at places that lie within their pages.
@@ -31,17 +30,11 @@ passed : {A : Type 0} (t : Bool) (r : Result A Fault) (e : Fault) (a : A) → co
 passed true r e a h = (refl, h)
 passed false r e a h = let n : ◌≡◌ {A = ℕ} 0 1 = cc in absurd (omega arith)
 
-batch-open : (page : ℕ) (r : Result BatchRecord Malformed) (b : Batch) → open_batch page r ≡ Ok b → r ≡ Ok (batch.Entered b)
-batch-open page (Ok batch.Empty) b e = let n : ◌≡◌ {A = ℕ} 0 1 = cc in absurd (omega arith)
-batch-open page (Ok (batch.Entered x)) b e = cc
-batch-open page (Ok (batch.Settled x)) b e = let n : ◌≡◌ {A = ℕ} 0 1 = cc in absurd (omega arith)
-batch-open page (Err m) b e = let n : ◌≡◌ {A = ℕ} 0 1 = cc in absurd (omega arith)
-
-fee-open : (page : ℕ) (r : Result FeeRecord Malformed) (f : Fee) → open_fee page r ≡ Ok f → r ≡ Ok (fee.Entered f)
-fee-open page (Ok fee.Empty) f e = let n : ◌≡◌ {A = ℕ} 0 1 = cc in absurd (omega arith)
-fee-open page (Ok (fee.Entered x)) f e = cc
-fee-open page (Ok (fee.Settled x)) f e = let n : ◌≡◌ {A = ℕ} 0 1 = cc in absurd (omega arith)
-fee-open page (Err m) f e = let n : ◌≡◌ {A = ℕ} 0 1 = cc in absurd (omega arith)
+record-open : {T : Type 0} (empty settled : Fault) (page : ℕ) (r : Result (Record T) Malformed) (x : T) → open_record empty settled page r ≡ Ok x → r ≡ Ok (Entered x)
+record-open empty settled page (Ok Empty) x e = let n : ◌≡◌ {A = ℕ} 0 1 = cc in absurd (omega arith)
+record-open empty settled page (Ok (Entered y)) x e = cc
+record-open empty settled page (Ok (Settled y)) x e = let n : ◌≡◌ {A = ℕ} 0 1 = cc in absurd (omega arith)
+record-open empty settled page (Err m) x e = let n : ◌≡◌ {A = ℕ} 0 1 = cc in absurd (omega arith)
 
 -- where a test is passed, the bytes are those at the place, within the page
 seen : (pages : Row) (page place : ℕ) (xs : List ℕ) → seen_at pages page place ≡ Ok xs → (place * 32 + 32 ≤ 512) × (bytes_in pages page place ≡ xs)
@@ -63,8 +56,8 @@ paired number pages x y xs ys b f u e1 e2 e3 e4 e5 =
     let k = fits number b f u e5 in
     record {
       opens = record {
-        batch = ap batch_of s.1 ∙ batch-open x.page (batch_of xs) b e3;
-        fee = ap fee_of t.1 ∙ fee-open y.page (fee_of ys) f e4;
+        batch = ap batch_of s.1 ∙ record-open fault.NoBatch fault.SettledBatch x.page (batch_of xs) b e3;
+        fee = ap fee_of t.1 ∙ record-open fault.NoFee fault.SettledFee y.page (fee_of ys) f e4;
         named = k.0;
         same = k.1;
         within = k.2;

@@ -8,11 +8,9 @@ use Rattle.book.specs.Call.Call.{Fix}
 use Rattle.book.specs.declared.grant.Kind.TheVariants.{Updating}
 use Rattle.records.specs.Layout.{batch_of, fee_of}
 use Rattle.records.specs.declared.batch.Batch.{Batch}
-use Rattle.records.specs.declared.batch.BatchRecord.{BatchRecord}
-use Rattle.records.specs.declared.batch.BatchRecord.TheVariants as batch
+use Rattle.records.specs.declared.record.Record.{Record}
+use Rattle.records.specs.declared.record.Record.TheVariants.{Empty, Entered, Settled}
 use Rattle.records.specs.declared.fee.Fee.{Fee}
-use Rattle.records.specs.declared.fee.FeeRecord.{FeeRecord}
-use Rattle.records.specs.declared.fee.FeeRecord.TheVariants as fee
 use Rattle.records.specs.declared.malformed.Malformed.{Malformed}
 use Rattle.ledger.specs.declared.fault.Fault.{Fault}
 use Rattle.ledger.specs.declared.fault.Fault.TheVariants as fault
@@ -23,18 +21,18 @@ use Rattle.ledger.specs.Settled.{bytes_in}
 abbrev pub seen_at : Row → (page place : ℕ) → Result (List ℕ) Fault
 seen_at pages page place = cond (nat_le (place * 32 + 32) 512) (Ok (bytes_in pages page place)) (Err (fault.Refused page PastPageEnd))
 
--- The batch, and the fee, that a record has and that is not settled.
-abbrev pub open_batch : ℕ → Result BatchRecord Malformed → Result Batch Fault
-open_batch page (Ok batch.Empty) = Err fault.NoBatch
-open_batch page (Ok (batch.Entered b)) = Ok b
-open_batch page (Ok (batch.Settled b)) = Err fault.SettledBatch
-open_batch page (Err m) = Err (fault.Malformed page m)
+-- What a record has that is entered and not settled, by the faults of one that is empty or settled.
+abbrev pub open_record : {T : Type 0} → Fault → Fault → ℕ → Result (Record T) Malformed → Result T Fault
+open_record empty settled page (Ok Empty) = Err empty
+open_record empty settled page (Ok (Entered x)) = Ok x
+open_record empty settled page (Ok (Settled x)) = Err settled
+open_record empty settled page (Err m) = Err (fault.Malformed page m)
 
-abbrev pub open_fee : ℕ → Result FeeRecord Malformed → Result Fee Fault
-open_fee page (Ok fee.Empty) = Err fault.NoFee
-open_fee page (Ok (fee.Entered f)) = Ok f
-open_fee page (Ok (fee.Settled f)) = Err fault.SettledFee
-open_fee page (Err m) = Err (fault.Malformed page m)
+abbrev pub open_batch : ℕ → Result (Record Batch) Malformed → Result Batch Fault
+open_batch = open_record fault.NoBatch fault.SettledBatch
+
+abbrev pub open_fee : ℕ → Result (Record Fee) Malformed → Result Fee Fault
+open_fee = open_record fault.NoFee fault.SettledFee
 
 -- Whether a batch has the number, and a fee is its and not above its value.
 abbrev pub fitting : ℕ → Batch → Fee → Result (Unit {0}) Fault

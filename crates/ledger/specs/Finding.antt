@@ -8,36 +8,28 @@ use Rattle.book.specs.Bytes.{bytes_at}
 use Rattle.book.specs.Call.Call.{Fix}
 use Rattle.book.specs.declared.grant.Kind.TheVariants.{Reading}
 use Rattle.records.specs.Layout.{batch_of, fee_of, record_in}
-use Rattle.records.specs.declared.batch.BatchRecord.{BatchRecord}
-use Rattle.records.specs.declared.batch.BatchRecord.TheVariants as batch
-use Rattle.records.specs.declared.fee.FeeRecord.{FeeRecord}
-use Rattle.records.specs.declared.fee.FeeRecord.TheVariants as fee
+use Rattle.records.specs.declared.record.Record.{Record}
+use Rattle.records.specs.declared.record.Record.TheVariants.{Empty, Entered, Settled}
 use Rattle.records.specs.declared.malformed.Malformed.{Malformed}
 use Rattle.pool.specs.Meaning.{book}
-use Rattle.pool.specs.Sound.{Sound}
 use Rattle.pool.specs.declared.pool.Pool.{Pool}
 use Rattle.ledger.specs.declared.finding.Kept.{Kept}
 use Rattle.ledger.specs.declared.finding.Kept.TheVariants.{Batches, Fees}
+use Rattle.ledger.specs.declared.finding.Shelf.{Shelf}
 use Rattle.ledger.specs.declared.spot.Spot.{Spot}
 use Rattle.ledger.specs.Reading.{after_reading}
 use Rattle.ledger.specs.Settled.{SameGrants}
 
 -- The number of the batch that a record is of, if it is in use.
-abbrev pub of_batch : Result BatchRecord Malformed → Option ℕ
-of_batch (Ok batch.Empty) = None
-of_batch (Ok (batch.Entered b)) = Some b.number
-of_batch (Ok (batch.Settled b)) = Some b.number
-of_batch (Err e) = None
-
-abbrev pub of_fee : Result FeeRecord Malformed → Option ℕ
-of_fee (Ok fee.Empty) = None
-of_fee (Ok (fee.Entered f)) = Some f.batch
-of_fee (Ok (fee.Settled f)) = Some f.batch
-of_fee (Err e) = None
+abbrev pub of_record : {T : Type 0} → (T → ℕ) → Result (Record T) Malformed → Option ℕ
+of_record number (Ok Empty) = None
+of_record number (Ok (Entered x)) = Some (number x)
+of_record number (Ok (Settled x)) = Some (number x)
+of_record number (Err e) = None
 
 abbrev pub number_in : Kept → List ℕ → Option ℕ
-number_in Batches bytes = of_batch (batch_of bytes)
-number_in Fees bytes = of_fee (fee_of bytes)
+number_in Batches bytes = of_record (λ b. b.number) (batch_of bytes)
+number_in Fees bytes = of_record (λ f. f.batch) (fee_of bytes)
 
 -- Whether the record at a place of a page is of a number.
 abbrev pub is_of : Option ℕ → ℕ → Bool
@@ -77,19 +69,22 @@ search b kept number first zero = (None, b)
 search b kept number first (suc n) = found_or first (found_on b kept first number) (once_read b first) (search (once_read b first) kept number (suc first) n)
 
 -- A search leaves every page and every grant as it was.
-pub record Undisturbed {D P : Type 0} (d : device.Ghosts D) (p : policy.Ghosts P) (pool pool' : Pool D P) : Type 0 where
-  pub sound : Sound d p pool'
-  pub grants : SameGrants (book d p pool) (book d p pool')
-  pub pages : (q : ℕ) → (book d p pool').pages q ≡ (book d p pool).pages q
+pub record Undisturbed {D P : Type 0} {d : device.Ghosts D} {p : policy.Ghosts P} (pool pool' : Pool D P d p) : Type 0 where
+  pub grants : SameGrants (book pool) (book pool')
+  pub pages : (q : ℕ) → (book pool').pages q ≡ (book pool).pages q
 
 -- The place is the page's, and the book is as a reading of the page leaves it.
-pub record DidFindOn {D P : Type 0} (d : device.Ghosts D) (p : policy.Ghosts P) (pool : Pool D P) (kept : Kept) (page number : ℕ) (r : Option ℕ) (pool' : Pool D P) : Type 0 where
-  pub undisturbed : Undisturbed d p pool pool'
-  pub answer : r ≡ found_on (book d p pool) kept page number
-  pub next : book d p pool' ≡ once_read (book d p pool) page
+pub record DidFindOn {D P : Type 0} {d : device.Ghosts D} {p : policy.Ghosts P} (pool : Pool D P d p) (kept : Kept) (page number : ℕ) (r : Option ℕ) (pool' : Pool D P d p) : Type 0 where
+  pub undisturbed : Undisturbed pool pool'
+  pub answer : r ≡ found_on (book pool) kept page number
+  pub next : book pool' ≡ once_read (book pool) page
 
--- The answer and the next book are those of the search of the pages from the first up to the end.
-pub record DidFind {D P : Type 0} (d : device.Ghosts D) (p : policy.Ghosts P) (pool : Pool D P) (kept : Kept) (number first end : ℕ) (r : Option Spot) (pool' : Pool D P) : Type 0 where
-  pub undisturbed : Undisturbed d p pool pool'
-  pub answer : r ≡ (search (book d p pool) kept number first (end - first)).0
-  pub next : book d p pool' ≡ (search (book d p pool) kept number first (end - first)).1
+-- The search of the pages of a shelf, from its first up to its end.
+abbrev pub shelf_search : Book → Shelf → ℕ → Option Spot × Book
+shelf_search b s number = search b s.kept number s.first (s.end - s.first)
+
+-- The answer and the next book are those of the search of the shelf.
+pub record DidFind {D P : Type 0} {d : device.Ghosts D} {p : policy.Ghosts P} (pool : Pool D P d p) (shelf : Shelf) (number : ℕ) (r : Option Spot) (pool' : Pool D P d p) : Type 0 where
+  pub undisturbed : Undisturbed pool pool'
+  pub answer : r ≡ (shelf_search (book pool) shelf number).0
+  pub next : book pool' ≡ (shelf_search (book pool) shelf number).1

@@ -1,5 +1,6 @@
 pub mod Answered
 pub mod Finding
+pub mod Held
 pub mod Numbered
 pub mod Pair
 pub mod Reading

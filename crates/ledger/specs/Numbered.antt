@@ -1,5 +1,5 @@
 -- Settling a batch by its number.
-use Rattle.std.specs.Prelude.{◌≡◌, ℕ, ◌-◌, IfOk, Some, None, Err, Option, Result}
+use Rattle.std.specs.Prelude.{◌≡◌, ℕ, IfOk, Some, None, Err, Option, Result}
 use Rattle.device.specs.declared.device.Device as device
 use Rattle.policy.specs.declared.policy.Policy as policy
 use Rattle.book.specs.Book.{Book}
@@ -13,15 +13,15 @@ use Rattle.ledger.specs.declared.finding.Kept.TheVariants.{Batches, Fees}
 use Rattle.ledger.specs.declared.numbered.Shelves.{Shelves}
 use Rattle.ledger.specs.declared.spot.Spot.{Spot}
 use Rattle.ledger.specs.Answered.{settlement}
-use Rattle.ledger.specs.Finding.{search}
+use Rattle.ledger.specs.Finding.{shelf_search}
 use Rattle.ledger.specs.Settled.{DidSettle}
 
 -- The searches for a batch, and then for its fee in the book as the first one left it.
 abbrev pub batch_search : Shelves → ℕ → Book → Option Spot × Book
-batch_search s number b = search b Batches number 0 (s.fees_from - 0)
+batch_search s number b = shelf_search b (record { kept = Batches; first = 0; end = s.fees_from }) number
 
 abbrev pub fee_search : Shelves → ℕ → Book → Option Spot × Book
-fee_search s number b = search b Fees number s.fees_from (s.fees_to - s.fees_from)
+fee_search s number b = shelf_search b (record { kept = Fees; first = s.fees_from; end = s.fees_to }) number
 
 -- What is answered once the fee was searched for, and once the batch was.
 abbrev pub with_fee : ℕ → Spot → Option Spot × Book → Result (Batch × Fee) Fault
@@ -39,9 +39,9 @@ pub record Found (s : Shelves) (number : ℕ) (b : Book) (x y : Spot) : Type 0 w
 
 -- The answer is that of the two searches and of a settlement where they end; the batch and the fee that
 -- were found were settled there, or nothing was.
-pub record DidSettleNumber {D P : Type 0} (d : device.Ghosts D) (p : policy.Ghosts P) (s : Shelves) (number : ℕ) (pool : Pool D P) (r : Result (Batch × Fee) Fault) (pool' : Pool D P) : Type 0 where
-  pub answer : r ≡ with_batch s number (batch_search s number (book d p pool))
+pub record DidSettleNumber {D P : Type 0} {d : device.Ghosts D} {p : policy.Ghosts P} (s : Shelves) (number : ℕ) (pool : Pool D P d p) (r : Result (Batch × Fee) Fault) (pool' : Pool D P d p) : Type 0 where
+  pub answer : r ≡ with_batch s number (batch_search s number (book pool))
   pub batch : Spot
   pub fee : Spot
-  pub found : IfOk r (λ x. Found s number (book d p pool) batch fee)
-  pub did : DidSettle d p number pool batch fee r pool'
+  pub found : IfOk r (λ x. Found s number (book pool) batch fee)
+  pub did : DidSettle number pool batch fee r pool'

@@ -9,7 +9,6 @@ use Rattle.book.specs.Call.Call.{Fix}
 use Rattle.book.specs.declared.grant.Kind.TheVariants.{Reading}
 use Rattle.pool.specs.Did.{at_time}
 use Rattle.pool.specs.Meaning.{book}
-use Rattle.pool.specs.Sound.{Sound}
 use Rattle.pool.specs.Steps.{verdict}
 use Rattle.pool.specs.declared.pool.Pool.{Pool}
 use Rattle.ledger.specs.Settled.{SameGrants}
@@ -28,10 +27,9 @@ after_reading b None = later b
 after_reading b (Some r) = b
 
 -- The page is read where its fix is accepted, and then the time alone goes on; no page and no grant is altered.
-pub record DidReadPage {D P : Type 0} (d : device.Ghosts D) (p : policy.Ghosts P) (pool : Pool D P) (page : ℕ) (old : List ℕ) (r : Result (Unit {0}) Refusal) (pool' : Pool D P) (new : List ℕ) : Type 0 where
-  pub sound : Sound d p pool'
-  pub grants : SameGrants (book d p pool) (book d p pool')
-  pub pages : (q : ℕ) → (book d p pool').pages q ≡ (book d p pool).pages q
-  pub answer : r ≡ verdict (refusal (book d p pool) (Fix Reading page))
-  pub buffer : Filled r (bytes_at ((book d p pool).pages page)) old new
-  pub next : book d p pool' ≡ after_reading (book d p pool) (refusal (book d p pool) (Fix Reading page))
+pub record DidReadPage {D P : Type 0} {d : device.Ghosts D} {p : policy.Ghosts P} (pool : Pool D P d p) (page : ℕ) (old : List ℕ) (r : Result (Unit {0}) Refusal) (pool' : Pool D P d p) (new : List ℕ) : Type 0 where
+  pub grants : SameGrants (book pool) (book pool')
+  pub pages : (q : ℕ) → (book pool').pages q ≡ (book pool).pages q
+  pub answer : r ≡ verdict (refusal (book pool) (Fix Reading page))
+  pub buffer : Filled r (bytes_at ((book pool).pages page)) old new
+  pub next : book pool' ≡ after_reading (book pool) (refusal (book pool) (Fix Reading page))

@@ -3,6 +3,7 @@
 
 mod fault;
 mod finding;
+mod held;
 mod numbered;
 mod pair;
 mod reading;
@@ -10,7 +11,7 @@ mod settlement;
 mod spot;
 
 pub use fault::Fault;
-pub use finding::{Kept, find};
+pub use finding::{Kept, Shelf, find};
 pub use numbered::{Shelves, settle_number};
 pub use reading::read_page;
 pub use settlement::settle;

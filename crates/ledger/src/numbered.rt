@@ -1,8 +1,7 @@
-ghost use Rattle.pool.specs.Sound.{Sound};
 ghost use Rattle.ledger.specs.Numbered.{DidSettleNumber};
 
 use crate::fault::Fault;
-use crate::finding::{Kept, find};
+use crate::finding::{Kept, Shelf, find};
 use crate::settlement::settle;
 use device::Device;
 use policy::Policy;
@@ -22,12 +21,22 @@ pub fn settle_number<D: Device, P: Policy>(
     shelves: Shelves,
     number: u32,
 ) -> Result<(Batch, Fee), Fault>
-    ensures { Sound D.Device P.Policy pool.old → DidSettleNumber D.Device P.Policy shelves number pool.old result pool.new }
+    ensures { DidSettleNumber shelves number pool.old result pool.new }
 {
-    let Some(batch) = find(pool, Kept::Batches, 0, shelves.fees_from, number) else {
+    let batches = Shelf {
+        kept: Kept::Batches,
+        first: 0,
+        end: shelves.fees_from,
+    };
+    let Some(batch) = find(pool, batches, number) else {
         return Err(Fault::NoBatch);
     };
-    let Some(fee) = find(pool, Kept::Fees, shelves.fees_from, shelves.fees_to, number) else {
+    let fees = Shelf {
+        kept: Kept::Fees,
+        first: shelves.fees_from,
+        end: shelves.fees_to,
+    };
+    let Some(fee) = find(pool, fees, number) else {
         return Err(Fault::NoFee);
     };
     settle(pool, number, batch, fee)

@@ -1,53 +1,35 @@
-ghost use Rattle.std.specs.Prelude.{◌≡◌, None};
-ghost use Rattle.book.specs.Book.{is_granted};
-ghost use Rattle.book.specs.declared.grant.Kind.TheVariants.{Updating};
-ghost use Rattle.records.specs.Layout.{batch_of, fee_of};
+ghost use Rattle.std.specs.Prelude.{◌≡◌};
+ghost use Rattle.records.specs.Layout.{record_of};
 ghost use Rattle.pool.specs.Meaning.{book};
-ghost use Rattle.pool.specs.Sound.{Sound};
-ghost use Rattle.ledger.specs.Answered.{fitting, open_batch, open_fee, open_pair as pair_of, seen_at};
+ghost use Rattle.ledger.specs.Answered.{fitting, open_record, open_pair as pair_of, seen_at};
+ghost use Rattle.ledger.specs.Held.{GrantOut, spot_of};
 ghost use Rattle.ledger.specs.Pair.{DidPair};
 
 use crate::fault::Fault;
+use crate::held::Held;
 use device::Device;
 use policy::Policy;
-use pool::{Pool, UpdateGrant};
-use records::{Batch, BatchRecord, Fee, FeeRecord};
+use pool::Pool;
+use records::{Batch, BatchRecord, Fee, FeeRecord, Fields, Record};
 
 // The 32 bytes at a place of the grant's page.
-fn look<D: Device, P: Policy>(
-    pool: &Pool<D, P>,
-    grant: &UpdateGrant,
-    place: u8,
-) -> Result<[u8; 32], Fault>
-    ensures { Sound D.Device P.Policy pool.now → is_granted (book D.Device P.Policy pool.now) Updating grant.now.mark grant.now.page ≡ None → result ≡ seen_at (book D.Device P.Policy pool.now).pages grant.now.page place }
+fn look<D: Device, P: Policy>(pool: &Pool<D, P>, held: Held<'_>) -> Result<[u8; 32], Fault>
+    ensures { GrantOut pool.now held.entry → result ≡ seen_at (book pool.now).pages (spot_of held.entry).page (spot_of held.entry).place }
 {
     let mut bytes = [0; 32];
-    match pool.read_update(grant, place as usize * 32, &mut bytes) {
-        Ok(()) => Ok(bytes),
-        Err(refusal) => Err(Fault::Refused(grant.page(), refusal)),
-    }
+    pool.read(held.grant, held.place as usize * 32, &mut bytes)
+        .map_err(|refusal| Fault::Refused(held.grant.page(), refusal))?;
+    Ok(bytes)
 }
 
-// The batch that is entered in 32 bytes.
-fn entered_batch(page: u32, bytes: &[u8; 32]) -> Result<Batch, Fault>
-    ensures { result ≡ open_batch page (batch_of bytes.now) }
+// The fields of the record that is entered in 32 bytes, by the faults of one that is empty or settled.
+fn entered<T: Fields>(page: u32, bytes: &[u8; 32], empty: Fault, settled: Fault) -> Result<T, Fault>
+    ensures { result ≡ open_record empty settled page (record_of T.STATUS T.read bytes.now) }
 {
-    match BatchRecord::decode(bytes) {
-        Ok(BatchRecord::Entered(batch)) => Ok(batch),
-        Ok(BatchRecord::Settled(_)) => Err(Fault::SettledBatch),
-        Ok(BatchRecord::Empty) => Err(Fault::NoBatch),
-        Err(malformed) => Err(Fault::Malformed(page, malformed)),
-    }
-}
-
-// The fee that is entered in 32 bytes.
-fn entered_fee(page: u32, bytes: &[u8; 32]) -> Result<Fee, Fault>
-    ensures { result ≡ open_fee page (fee_of bytes.now) }
-{
-    match FeeRecord::decode(bytes) {
-        Ok(FeeRecord::Entered(fee)) => Ok(fee),
-        Ok(FeeRecord::Settled(_)) => Err(Fault::SettledFee),
-        Ok(FeeRecord::Empty) => Err(Fault::NoFee),
+    match Record::<T>::decode(bytes) {
+        Ok(Record::Entered(fields)) => Ok(fields),
+        Ok(Record::Settled(_)) => Err(settled),
+        Ok(Record::Empty) => Err(empty),
         Err(malformed) => Err(Fault::Malformed(page, malformed)),
     }
 }
@@ -72,17 +54,25 @@ fn fits(number: u32, batch: Batch, fee: Fee) -> Result<(), Fault>
 fn open_pair<D: Device, P: Policy>(
     pool: &Pool<D, P>,
     number: u32,
-    first: &UpdateGrant,
-    batch_place: u8,
-    second: &UpdateGrant,
-    fee_place: u8,
+    first: Held<'_>,
+    second: Held<'_>,
 ) -> Result<(Batch, Fee), Fault>
-    ensures { Sound D.Device P.Policy pool.now → is_granted (book D.Device P.Policy pool.now) Updating first.now.mark first.now.page ≡ None → is_granted (book D.Device P.Policy pool.now) Updating second.now.mark second.now.page ≡ None → result ≡ pair_of number (book D.Device P.Policy pool.now).pages (record { page = first.now.page; place = batch_place }) (record { page = second.now.page; place = fee_place }) }
+    ensures { GrantOut pool.now first.entry → GrantOut pool.now second.entry → result ≡ pair_of number (book pool.now).pages (spot_of first.entry) (spot_of second.entry) }
 {
-    let batch_bytes = look(pool, first, batch_place)?;
-    let fee_bytes = look(pool, second, fee_place)?;
-    let batch = entered_batch(first.page(), &batch_bytes)?;
-    let fee = entered_fee(second.page(), &fee_bytes)?;
+    let batch_bytes = look(pool, first)?;
+    let fee_bytes = look(pool, second)?;
+    let batch = entered(
+        first.grant.page(),
+        &batch_bytes,
+        Fault::NoBatch,
+        Fault::SettledBatch,
+    )?;
+    let fee = entered(
+        second.grant.page(),
+        &fee_bytes,
+        Fault::NoFee,
+        Fault::SettledFee,
+    )?;
     fits(number, batch, fee)?;
     Ok((batch, fee))
 }
@@ -91,18 +81,16 @@ fn open_pair<D: Device, P: Policy>(
 pub(crate) fn settle_pair<D: Device, P: Policy>(
     pool: &mut Pool<D, P>,
     number: u32,
-    first: &UpdateGrant,
-    batch_place: u8,
-    second: &UpdateGrant,
-    fee_place: u8,
+    first: Held<'_>,
+    second: Held<'_>,
 ) -> Result<(Batch, Fee), Fault>
-    ensures answer { Sound D.Device P.Policy pool.old → is_granted (book D.Device P.Policy pool.old) Updating first.now.mark first.now.page ≡ None → is_granted (book D.Device P.Policy pool.old) Updating second.now.mark second.now.page ≡ None → result ≡ pair_of number (book D.Device P.Policy pool.old).pages (record { page = first.now.page; place = batch_place }) (record { page = second.now.page; place = fee_place }) }
-    ensures did { Sound D.Device P.Policy pool.old → is_granted (book D.Device P.Policy pool.old) Updating first.now.mark first.now.page ≡ None → is_granted (book D.Device P.Policy pool.old) Updating second.now.mark second.now.page ≡ None → DidPair D.Device P.Policy number pool.old (record { page = first.now.page; place = batch_place }) (record { page = second.now.page; place = fee_place }) result pool.new }
+    ensures answer { GrantOut pool.old first.entry → GrantOut pool.old second.entry → result ≡ pair_of number (book pool.old).pages (spot_of first.entry) (spot_of second.entry) }
+    ensures did { GrantOut pool.old first.entry → GrantOut pool.old second.entry → DidPair number pool.old (spot_of first.entry) (spot_of second.entry) result pool.new }
 {
-    let pair = open_pair(pool, number, first, batch_place, second, fee_place)?;
+    let pair = open_pair(pool, number, first, second)?;
     let batch = BatchRecord::Settled(pair.0).encode();
     let fee = FeeRecord::Settled(pair.1).encode();
-    let _ = pool.write(first, batch_place as usize * 32, &batch);
-    let _ = pool.write(second, fee_place as usize * 32, &fee);
+    let _ = pool.write(first.grant, first.place as usize * 32, &batch);
+    let _ = pool.write(second.grant, second.place as usize * 32, &fee);
     Ok(pair)
 }

@@ -1,10 +1,9 @@
-ghost use Rattle.pool.specs.Sound.{Sound};
 ghost use Rattle.ledger.specs.Reading.{DidReadPage};
 
 use device::Device;
 use page::Refusal;
 use policy::Policy;
-use pool::Pool;
+use pool::{Pool, ReadGrant};
 
 // Reads a whole page through the pool: a fix, a copy and an unfix.
 pub fn read_page<D: Device, P: Policy>(
@@ -12,10 +11,10 @@ pub fn read_page<D: Device, P: Policy>(
     page: u32,
     buffer: &mut [u8; 512],
 ) -> Result<(), Refusal>
-    ensures { Sound D.Device P.Policy pool.old → DidReadPage D.Device P.Policy pool.old page buffer.old result pool.new buffer.new }
+    ensures { DidReadPage pool.old page buffer.old result pool.new buffer.new }
 {
-    let grant = pool.fix_read(page)?;
+    let grant: ReadGrant = pool.fix(page)?;
     let read = pool.read(&grant, 0, buffer);
-    let _ = pool.unfix_read(grant);
+    let _ = pool.unfix(grant);
     read
 }

@@ -21,6 +21,6 @@ use Rattle.stock.specs.Lines.{heard_of}
 abbrev pub line_by : Layout → Book → ℕ → Line
 line_by l b k = record { page = k; book = book_of l k; state = state_at (b.pages k); found = heard_of (book_of l k) (verdict (refusal b (Fix Reading k))) (bytes_at (b.pages k)) }
 
-pub record DidLine {D P : Type 0} (d : device.Ghosts D) (p : policy.Ghosts P) (l : Layout) (pool : Pool D P) (page : ℕ) (r : Line) (pool' : Pool D P) : Type 0 where
-  pub line : r ≡ line_by l (book d p pool) page
-  pub undisturbed : Undisturbed d p pool pool'
+pub record DidLine {D P : Type 0} {d : device.Ghosts D} {p : policy.Ghosts P} (l : Layout) (pool : Pool D P d p) (page : ℕ) (r : Line) (pool' : Pool D P d p) : Type 0 where
+  pub line : r ≡ line_by l (book pool) page
+  pub undisturbed : Undisturbed pool pool'

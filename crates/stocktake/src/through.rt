@@ -1,4 +1,3 @@
-ghost use Rattle.pool.specs.Sound.{Sound};
 ghost use Rattle.stocktake.specs.Through.{DidLine};
 
 use device::Device;
@@ -9,15 +8,12 @@ use stock::{Layout, Line, count_records};
 
 // Looks at one page of a volume through the pool over it.
 pub fn line_through<D: Device, P: Policy>(pool: &mut Pool<D, P>, layout: Layout, page: u32) -> Line
-    ensures { Sound D.Device P.Policy pool.old → DidLine D.Device P.Policy layout pool.old page result pool.new }
+    ensures { DidLine layout pool.old page result pool.new }
 {
     let book = layout.book_of(page);
     let state = pool.device().state(page);
     let mut bytes = [0; 512];
-    let found = match read_page(pool, page, &mut bytes) {
-        Ok(()) => Ok(count_records(book, &bytes)),
-        Err(refusal) => Err(refusal),
-    };
+    let found = read_page(pool, page, &mut bytes).map(|()| count_records(book, &bytes));
     Line {
         page,
         book,
