@@ -2,6 +2,7 @@ pub mod Answering
 pub mod Granted
 pub mod Numbering
 pub mod Opening
+pub mod Passing
 pub mod Placing
 pub mod Readings
 pub mod Searching

@@ -23,10 +23,9 @@ pub fn settle<D: Device, P: Policy>(
     ensures answer { result ≡ settlement number (book_of pool.old) batch fee }
     ensures did { DidSettle number pool.old batch fee result pool.new }
 {
-    let first: UpdateGrant = match pool.fix(batch.page) {
-        Ok(grant) => grant,
-        Err(refusal) => return Err(Fault::Refused(batch.page, refusal)),
-    };
+    let first: UpdateGrant = pool
+        .fix(batch.page)
+        .map_err(|refusal| Fault::Refused(batch.page, refusal))?;
     let second: UpdateGrant = match pool.fix(fee.page) {
         Ok(grant) => grant,
         Err(refusal) => {
