@@ -64,7 +64,8 @@ fn lesser(best: Option<Block>, block: Block) -> Block
     }
 }
 
-// The block that is to leave first among those of the candidates.
+// The block that is to leave first among those of the candidates. The fold is the scan that the
+// algorithm prints, so it answers both clauses: `min_by_key` would want the order proved a second time.
 pub fn first_to_leave(
     blocks: &[Block],
     listed: &[u32],

@@ -1,13 +1,13 @@
 -- What the calls leave of the set of resident pages and its size.
 use Rattle.std.proofs.Common.{◌≡◌, ℕ, ◌+◌, ◌<◌, ◌≤◌, Bool, true, false, cond, eqb, List, [], ◌∷◌, length, is_some, Some, None, Option, sym, refl, ap, ◌∙◌, arith, eqb-true}
 use Rattle.std.proofs.lemmas.Bool.{false≢true}
-use Rattle.std.proofs.lemmas.Bool.Decides.{nat_tests}
 use Rattle.policy.specs.Sets.{member, distinct, entered, grown}
 use Rattle.blocks.specs.declared.block.Block.{Block}
 use Rattle.blocks.specs.Blocks.{pages, found, less, renewed, refreshed}
 use Rattle.lru_two.specs.Model.{Model, resident, size, touched, forgotten, dropped, gone, admitted}
 use Rattle.recency.proofs.Pages.{by_bool, has_record, Nowhere, nowhere, length-less, length-renewed, member-less}
-use Rattle.blocks.proofs.Counts.{pages-renewed, same-page, out_once}
+use Rattle.policy.proofs.Counts.{out-distinct}
+use Rattle.blocks.proofs.Counts.{pages-renewed, same-page}
 use Rattle.policy.proofs.Admissions.{Leaves, turned}
 
 abbrev pub key : Block → ℕ
@@ -56,7 +56,7 @@ none-resident m p t r = rw (turned p r)
 pub some-resident : (m : Model) (p g t r : ℕ) → distinct (pages m.blocks) ≡ true → resident m g ≡ true → resident (admitted m p (Some g) t) r ≡ entered (resident m) p (Some g) r
 some-resident m p g t r h e =
     ap (λ (bs : List Block). cond (eqb p r) true (member r (pages bs))) (gone-blocks (forgotten m p) g e)
-    ∙ ap (λ (b : Bool). cond (eqb p r) true b) (out_once g r m.blocks h)
+    ∙ ap (λ (b : Bool). cond (eqb p r) true b) (out-distinct key g r m.blocks h)
     ∙ rw (turned p r, turned g r)
 
 pub none-size : (m : Model) (p t : ℕ) → size (admitted m p None t) ≡ grown (size m) None

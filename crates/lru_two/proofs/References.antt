@@ -1,7 +1,7 @@
 -- One reference to the policy is one reference of the printed algorithm.
 use Rattle.std.proofs.Common.{◌≡◌, ℕ, ◌+◌, ◌/◌, ◌<◌, ◌≤◌, Bool, true, false, cond, eqb, ltb, List, ◌∷◌, map, length, take, Some, None, Option, sym, refl, ap, ◌∙◌, subst, arith}
 use Rattle.std.proofs.lemmas.List.{length-map, take-map}
-use Rattle.std.proofs.lemmas.Bool.{false≢true, ltb-true, le-ltb, eqb-true}
+use Rattle.std.proofs.lemmas.Bool.{false≢true, le-ltb, eqb-true}
 use Rattle.policy.specs.Runs.{leaving, swapped, Turn, turn, left_by, Standing}
 use Rattle.recency.proofs.Pages.{by_bool}
 use Rattle.policy.specs.Once.{not_counted}
@@ -12,7 +12,7 @@ use Rattle.policy.specs.declared.outcome.Outcome.{Outcome}
 use Rattle.policy.specs.declared.outcome.Outcome.TheVariants.{Hit, Fetch}
 use Rattle.policy.proofs.Turns.{Leaving, accepted, standing-again}
 use Rattle.blocks.specs.declared.block.Block.{Block}
-use Rattle.blocks.specs.Blocks.{pages, less, earlier, refreshed}
+use Rattle.blocks.specs.Blocks.{less, earlier, refreshed}
 use Rattle.lru_two.specs.Model as model
 use Rattle.lru_two.specs.Model.{Model, resident, size, touched, chosen, forgotten, come, admitted}
 use Rattle.lru_two.specs.Of.{lru_two}

@@ -1,14 +1,14 @@
 -- A run of the policy over a reference string is the printed run over it.
-use Rattle.std.proofs.Common.{◌≡◌, ℕ, ◌+◌, ◌≤◌, Bool, true, false, cond, List, [], ◌∷◌, ◌++◌, length, take, sym, refl, ap, ◌∙◌, subst, append_assoc, arith}
-use Rattle.std.proofs.lemmas.List.{append-nil, length_push}
+use Rattle.std.proofs.Common.{◌≡◌, ℕ, ◌+◌, ◌≤◌, cond, List, [], ◌∷◌, ◌++◌, length, take, sym, refl, ap, ◌∙◌, subst}
+use Rattle.std.proofs.lemmas.List.{length_push}
 use Rattle.policy.specs.Runs.{turn, Course, start, refer, run, hit_by, hits, fetches, left_by, left, reach, DidRun, Standing}
 use Rattle.policy.specs.declared.outcome.Outcome.{Outcome}
 use Rattle.policy.proofs.Tallies.{left_push, hits_push, fetches_push, hit_of, fetch_of}
 use Rattle.lru_two.specs.AsPrinted.{of_state, AsPrinted}
 use Rattle.lru_two.specs.Model.{Model, empty}
 use Rattle.lru_two.specs.Of.{lru_two}
-use Rattle.lru_two.specs.Printed.{nothing, Referred, reference, Run, tallied, run_from, printed_run}
-use Rattle.lru_two.proofs.References.{outcome_of, Did, refers}
+use Rattle.lru_two.specs.Printed.{nothing, reference, Run, tallied, run_from, printed_run}
+use Rattle.lru_two.proofs.References.{Did, refers}
 use Rattle.lru_two.proofs.Sounds.{Sound, nothing-sound}
 
 module _ (frames crp : ℕ) (least : 4 ≤ frames) (most : frames ≤ 64) where

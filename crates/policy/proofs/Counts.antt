@@ -1,5 +1,5 @@
 -- How often a page stands in a list.
-use Rattle.std.proofs.Common.{◌≡◌, ℕ, zero, suc, ◌+◌, ◌≤◌, Bool, true, false, cond, eqb, List, [], ◌∷◌, length, take, is_some, Some, None, sym, refl, ap, ◌∙◌, arith, eqb-true}
+use Rattle.std.proofs.Common.{◌≡◌, ℕ, zero, suc, ◌+◌, ◌≤◌, true, false, cond, eqb, List, [], ◌∷◌, map, length, take, is_some, Some, None, sym, refl, ap, ◌∙◌, arith, eqb-true}
 use Rattle.std.proofs.lemmas.List.{map-id}
 use Rattle.std.proofs.lemmas.Bool.{false≢true}
 use Rattle.std.proofs.lemmas.Bool.Decides.{nat_tests}
@@ -38,6 +38,16 @@ count_less_le p r (x ∷ xs) = let i = count_less_le p r xs in grind (arith, nat
 pub out_once : (p r : ℕ) (xs : List ℕ) → count r xs ≤ 1 → member r (less (λ (x : ℕ). x) p xs) ≡ cond (eqb p r) false (member r xs)
 out_once p r [] h = grind (arith, nat_tests)
 out_once p r (x ∷ xs) h = let i = out_once p r xs in let z = not_counted r xs in grind (arith, nat_tests)
+
+-- the same of records of which no page has two
+module _ {X : Type 0} (key : X → ℕ) where
+  pub distinct-less : (p : ℕ) (xs : List X) → distinct (map key xs) ≡ true → distinct (map key (less key p xs)) ≡ true
+  distinct-less p [] h = refl
+  distinct-less p (x ∷ xs) h = let i = distinct-less p xs in let j = pages.member-less key (key x) p xs in grind (arith, nat_tests)
+
+  pub out-distinct : (p r : ℕ) (xs : List X) → distinct (map key xs) ≡ true → member r (map key (less key p xs)) ≡ cond (eqb p r) false (member r (map key xs))
+  out-distinct p r [] h = grind (arith, nat_tests)
+  out-distinct p r (x ∷ xs) h = let i = out-distinct p r xs in grind (arith, nat_tests)
 
 -- a page number is its own key
 pub found_is : (p : ℕ) (xs : List ℕ) → found (λ (x : ℕ). x) p xs ≡ cond (member p xs) (Some p) None

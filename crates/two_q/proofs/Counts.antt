@@ -1,5 +1,5 @@
 -- How long the lists are, and how often a page stands in them.
-use Rattle.std.proofs.Common.{◌≡◌, ℕ, ◌+◌, ◌<◌, ◌≤◌, Bool, true, false, cond, eqb, List, ◌∷◌, length, take, Some, None, Option, sym, refl, ap, arith, eqb-true}
+use Rattle.std.proofs.Common.{◌≡◌, ℕ, ◌+◌, ◌<◌, ◌≤◌, Bool, true, false, cond, eqb, List, ◌∷◌, length, take, Some, None, Option, sym, refl, arith, eqb-true}
 use Rattle.std.proofs.lemmas.Bool.{false≢true}
 use Rattle.recency.proofs.Pages.{by_bool}
 use Rattle.policy.specs.Sets.{member, count}

@@ -1,14 +1,13 @@
 -- A run of the policy over a reference string is the printed run over it.
-use Rattle.std.proofs.Common.{◌≡◌, ℕ, ◌+◌, ◌≤◌, Bool, true, false, cond, List, [], ◌∷◌, ◌++◌, length, take, sym, refl, ap, ◌∙◌, subst, append_assoc, arith}
-use Rattle.std.proofs.lemmas.List.{append-nil}
+use Rattle.std.proofs.Common.{◌≡◌, ℕ, ◌+◌, ◌≤◌, cond, List, [], ◌∷◌, ◌++◌, length, take, sym, refl, ap, ◌∙◌, subst}
 use Rattle.policy.specs.Runs.{turn, Course, start, refer, run, hit_by, hits, fetches, left_by, left, reach, DidRun, Standing}
 use Rattle.policy.specs.declared.outcome.Outcome.{Outcome}
 use Rattle.policy.proofs.Tallies.{left_push, hits_push, fetches_push, hit_of, fetch_of}
 use Rattle.two_q.specs.AsPrinted.{of_queues, AsPrinted}
 use Rattle.two_q.specs.Model.{Model, empty}
 use Rattle.two_q.specs.Of.{two_q}
-use Rattle.two_q.specs.Printed.{Accessed, access, Run, tallied, run_from, printed_run}
-use Rattle.two_q.proofs.Accesses.{outcome_of, Did, accesses}
+use Rattle.two_q.specs.Printed.{access, Run, tallied, run_from, printed_run}
+use Rattle.two_q.proofs.Accesses.{Did, accesses}
 use Rattle.two_q.proofs.Sounds.{Sound, empty-sound}
 
 -- where a run of the policy and a printed run stand alike

@@ -1,8 +1,8 @@
-use Rattle.std.proofs.Common.{◌≡◌, Some, None, Option, sym, ◌∙◌, subst, rules, tests}
+use Rattle.std.proofs.Common.{Some, None, Option, sym, ◌∙◌, subst, rules, tests}
 use Rattle.std.proofs.lemmas.Iterator.{YieldsList-from_slice}
 use Rattle.std.proofs.lemmas.Iterator.Consumers.{YieldsList-from_filter, fold_from_yields_List}
 use Rattle.blocks.specs.declared.block.Block.{Block}
-use Rattle.blocks.specs.Blocks.{candidate, lesser, scanned}
+use Rattle.blocks.specs.Blocks.{candidate, lesser}
 use Rattle.blocks.specs.First.{FirstAmong}
 use Rattle.blocks.proofs.Scans.{scan-first, scan_folds}
 use Rattle.blocks.proofs.scan.first_to_leave.Goals as goal

@@ -4,7 +4,7 @@ use Rattle.recency.proofs.Pages.{length_less_le}
 use Rattle.policy.specs.Sets.{distinct}
 use Rattle.blocks.specs.declared.block.Block.{Block}
 use Rattle.blocks.specs.Blocks.{pages, found}
-use Rattle.blocks.proofs.Counts.{distinct-less}
+use Rattle.policy.proofs.Counts.{distinct-less}
 use Rattle.lru_two.specs.Model.{dropped, gone}
 use Rattle.lru_two.specs.Of.{model}
 use Rattle.lru_two.proofs.Laws.{key, models, not-found}
@@ -18,7 +18,7 @@ invariant_of-self c =
     record {
       few = omega (arith, s.few, ap length e, length_less_le key p s.blocks);
       short = s.short;
-      once = ap (λ (bs : List Block). distinct (pages bs)) e ∙ distinct-less p s.blocks s.once;
+      once = ap (λ (bs : List Block). distinct (pages bs)) e ∙ distinct-less key p s.blocks s.once;
     }
 
 pub returns-in_default-remove : goal.returns-in_default-remove
@@ -36,7 +36,7 @@ invariant_of-self-2 c =
     record {
       few = omega (arith, s.few, ap length e, length_less_le key p s.blocks);
       short = omega (arith, ap length c.truncate.ensures, length-take (c.value.result / 2) c.push.new.self, ap (λ (n : ℕ). n / 2) c.value.ensures.value);
-      once = ap (λ (bs : List Block). distinct (pages bs)) e ∙ distinct-less p s.blocks s.once;
+      once = ap (λ (bs : List Block). distinct (pages bs)) e ∙ distinct-less key p s.blocks s.once;
     }
 
 pub returns : goal.returns

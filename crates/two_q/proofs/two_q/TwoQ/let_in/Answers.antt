@@ -1,6 +1,6 @@
 use Rattle.std.proofs.Common.{◌≡◌, ◌∷◌, length, refl, ap, ◌∙◌, arith}
 use Rattle.std.proofs.lemmas.List.{take_all}
-use Rattle.policy.specs.Sets.{count}
+use Rattle.policy.specs.Sets.{member, count}
 use Rattle.two_q.proofs.Counts.{neither, fresh}
 use Rattle.two_q.proofs.Models.{models}
 use Rattle.two_q.proofs.two_q.TwoQ.let_in.Goals as goal
@@ -10,7 +10,7 @@ invariant_of-self c =
     let q = c.args.self.now in
     let p = c.args.page in
     let e : c.push.new.self ≡ p ∷ q.am = c.push.ensures ∙ take_all 64 (p ∷ q.am) (omega (arith, c.requires.room, q.frames.most)) in
-    let no = neither _ _ c.requires.absent in
+    let no = neither (member p q.am) (member p q.a1in) c.requires.absent in
     record {
       few = omega (arith, c.requires.room, ap length e);
       short = q.short;
@@ -29,7 +29,7 @@ invariant_of-self-2 c =
     let q = c.args.self.now in
     let p = c.args.page in
     let e : c.push-2.new.self ≡ p ∷ q.a1in = c.push-2.ensures ∙ take_all 64 (p ∷ q.a1in) (omega (arith, c.requires.room, q.frames.most)) in
-    let no = neither _ _ c.requires.absent in
+    let no = neither (member p q.am) (member p q.a1in) c.requires.absent in
     record {
       few = omega (arith, c.requires.room, ap length e);
       short = q.short;
