@@ -1,5 +1,6 @@
 -- What a refused call and an accepted fix come to.
 use Rattle.std.proofs.Common.{◌≡◌, ℕ, ◌+◌, Bool, true, false, cond, eqb, ◌≢◌, List, [], ◌∷◌, IsErrAnd, Some, None, Ok, Err, Option, Result, sym, refl, ap, ◌∙◌, subst, inl, inr, arith, MatchOption}
+use Rattle.std.specs.Option.{ok_or}
 use Rattle.std.proofs.lemmas.Result.{err_from_is_err_and}
 use Rattle.std.proofs.lemmas.Bool.{both_ways, false≢true, cond-true, cond-false, eq-eqb, ne_eqb}
 use Rattle.page.specs.declared.refusal.Refusal.{Refusal}
@@ -43,6 +44,11 @@ verdict-none (Some x) e = let z : ◌≡◌ {A = ℕ} 0 1 = cc in absurd (omega 
 -- the exit of a `?` returns the error as it was
 pub exit_err : {A : Type 0} (r : Result A Refusal) (e : Refusal) → IsErrAnd r (λ y. y ≡ e) → r ≡ Err e
 exit_err r e h = let p = err_from_is_err_and r h in p.1 ∙ ap Err p.2
+
+-- and an `ok_or` at a none gives its error
+pub none_err : {A : Type 0} (o : Option A) (e r : Refusal) → o ≡ None → Err e ≡ ok_or o r → e ≡ r
+none_err None e r n h = cc
+none_err (Some x) e r n h = absurd (some-none x n)
 
 -- no turn of the policy's
 pub no_turn : {P : Type 0} (p : policy.Ghosts P) (b : Book) (x x' : Course p.Model) (call : Call) → unless (refusal b call) (named call) ≡ None → x' ≡ x → Turned p b x call [] x'

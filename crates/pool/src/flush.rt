@@ -17,10 +17,9 @@ impl<D: Device, P: Policy> Pool<D, P> {
         if page >= self.device.count() {
             return Err(Refusal::NoSuchPage);
         }
-        let Some(place) = self.frames.find(page) else {
-            return Ok(());
-        };
-        self.write_back(place);
+        if let Some(place) = self.frames.find(page) {
+            self.write_back(place);
+        }
         Ok(())
     }
 
@@ -28,10 +27,9 @@ impl<D: Device, P: Policy> Pool<D, P> {
     fn settle(&mut self, index: usize)
         ensures { (first : Pool D P D.Device P.Policy) → DidSettle first index self.old → DidSettle first (index + 1) self.new }
     {
-        let Some(place) = self.frames.nth(index) else {
-            return;
-        };
-        self.write_back(place);
+        if let Some(place) = self.frames.nth(index) {
+            self.write_back(place);
+        }
     }
 
     // Writes every page back that is in a frame and was changed.

@@ -62,6 +62,6 @@ impl<D: Device, P: Policy> Pool<D, P> {
     pub fn is_full(&self) -> bool
         ensures { result ≡ nat_le 4294967295 self.now.clock }
     {
-        self.clock >= 4294967295
+        self.clock == u32::MAX
     }
 }

@@ -15,9 +15,7 @@ impl<D: Device, P: Policy> Pool<D, P> {
     fn granted<K: Purpose>(&self, grant: &Grant<K>) -> Result<Place, Refusal>
         ensures { Out self.now (ticket K.Purpose grant.now) result }
     {
-        let Some(place) = self.frames.find(grant.page) else {
-            return Err(Refusal::NotGranted);
-        };
+        let place = self.frames.find(grant.page).ok_or(Refusal::NotGranted)?;
         if grant.mark != self.mark || self.frames.slot(place).pins_of(K::KIND) == 0 {
             return Err(Refusal::NotGranted);
         }
