@@ -2,7 +2,7 @@ ghost use Rattle.std.specs.Prelude.{◌≡◌, length};
 ghost use Rattle.ends.specs.Bytes.{pages_in, archive_row};
 ghost use Rattle.ends.specs.Shapes.{archive_of};
 
-use crate::bytes::{copy_page, whole_pages};
+use crate::bytes::{copy_page, start, whole_pages};
 use device::Device;
 use page::{Origin, Refusal, State};
 
@@ -32,24 +32,16 @@ impl<'a> Device for Archive<'a> {
     }
 
     fn state(&self, page: u32) -> Result<State, Refusal> {
-        if page >= whole_pages(self.bytes.len()) {
-            return Err(Refusal::NoSuchPage);
-        }
+        start(self.bytes.len(), page)?;
         Ok(State::Worn(Origin::here(page)))
     }
 
     fn read(&mut self, page: u32, buffer: &mut [u8; 512]) -> Result<(), Refusal> {
-        if page >= whole_pages(self.bytes.len()) {
-            return Err(Refusal::NoSuchPage);
-        }
-        copy_page(self.bytes, page, buffer);
-        Ok(())
+        copy_page(self.bytes, page, buffer)
     }
 
     fn write(&mut self, page: u32, _bytes: &[u8; 512]) -> Result<(), Refusal> {
-        if page >= whole_pages(self.bytes.len()) {
-            return Err(Refusal::NoSuchPage);
-        }
+        start(self.bytes.len(), page)?;
         Err(Refusal::WornPage(Origin::here(page)))
     }
 }

@@ -4,11 +4,12 @@ ghost use Rattle.device.specs.Row.{write_at, written};
 ghost use Rattle.ends.specs.Bytes.{pages_in, page_of, tail_of, memory_row};
 ghost use Rattle.ends.specs.Shapes.{memory_of};
 
-use crate::bytes::{copy_page, whole_pages};
+use crate::bytes::{copy_page, start, whole_pages};
 use device::Device;
 use page::{Refusal, State};
 
-// Writable bytes of the caller, as pages that are all sound.
+// Writable bytes of the caller, as pages that are all sound. Archive is a type apart: it borrows its
+// bytes shared, has another state and takes no write.
 #[derive(Drop)]
 pub struct Memory<'a> {
     bytes: &'a mut [u8],
@@ -30,31 +31,12 @@ impl<'a> Memory<'a> {
         let bytes = self.bytes;
         bytes
     }
-}
 
-// Copies a whole page into the buffer.
-fn copy_out(memory: &Memory, page: u32, buffer: &mut [u8; 512])
-    requires { page < pages_in (length memory.now.bytes.now) }
-    ensures { buffer.new ≡ page_of memory.now.bytes.now page }
-{
-    copy_page(memory.bytes, page, buffer);
-}
-
-impl Memory<'_> {
-    // Replaces one page. The bytes after the last whole page are never touched.
-    fn replace(&mut self, page: u32, bytes: &[u8; 512]) -> Result<(), Refusal>
-        ensures answer { result ≡ write_at (memory_row self.old.bytes.now page) }
-        ensures len { length self.new.bytes.now ≡ length self.old.bytes.now }
-        ensures row { (k : ℕ) → memory_row self.new.bytes.now k ≡ written (memory_row self.old.bytes.now) page bytes.now k }
-        ensures tail { tail_of self.new.bytes.now ≡ tail_of self.old.bytes.now }
-        ensures named { self.new.bytes.ghost_name ≡ self.old.bytes.ghost_name }
+    // The bytes, shared: lent so, they are known to stay.
+    fn as_bytes(&self) -> &[u8]
+        ensures { result.now ≡ self.now.bytes.now }
     {
-        if page >= whole_pages(self.bytes.len()) {
-            return Err(Refusal::NoSuchPage);
-        }
-        let at = page as usize * 512;
-        self.bytes[at..at + 512].copy_from_slice(bytes);
-        Ok(())
+        self.bytes
     }
 }
 
@@ -70,9 +52,7 @@ impl<'a> Device for Memory<'a> {
     }
 
     fn state(&self, page: u32) -> Result<State, Refusal> {
-        if page >= whole_pages(self.bytes.len()) {
-            return Err(Refusal::NoSuchPage);
-        }
+        start(self.bytes.len(), page)?;
         Ok(State::Sound)
     }
 
@@ -81,18 +61,17 @@ impl<'a> Device for Memory<'a> {
         ensures bytes { self.new.bytes.now ≡ self.old.bytes.now }
         ensures named { self.new.bytes.ghost_name ≡ self.old.bytes.ghost_name }
     {
-        if page >= whole_pages(self.bytes.len()) {
-            return Err(Refusal::NoSuchPage);
-        }
-        copy_out(self, page, buffer);
-        Ok(())
+        copy_page(self.as_bytes(), page, buffer)
     }
 
+    // The bytes after the last whole page are never touched.
     fn write(&mut self, page: u32, bytes: &[u8; 512]) -> Result<(), Refusal>
         ensures did { DidWrite (pages_in (length self.old.bytes.now)) (memory_row self.old.bytes.now) page bytes.now result (pages_in (length self.new.bytes.now)) (memory_row self.new.bytes.now) }
         ensures tail { tail_of self.new.bytes.now ≡ tail_of self.old.bytes.now }
         ensures named { self.new.bytes.ghost_name ≡ self.old.bytes.ghost_name }
     {
-        self.replace(page, bytes)
+        let at = start(self.bytes.len(), page)?;
+        self.bytes[at..at + 512].copy_from_slice(bytes);
+        Ok(())
     }
 }
