@@ -1,17 +1,15 @@
-use Rattle.std.proofs.Common.{◌≡◌, ℕ, ◌+◌, ◌<◌, ◌≤◌, None, Err, Option, Result, sym, ap, ◌∙◌, subst, arith}
-use Rattle.page.specs.declared.refusal.Refusal.{Refusal}
+use Rattle.std.proofs.Common.{◌≡◌, ℕ, ◌+◌, ◌<◌, ◌≤◌, None, Some, Option, sym, refl, ap, ◌∙◌, subst, arith}
 use Rattle.page.specs.declared.refusal.Refusal.TheVariants.{PageFull, NoFrame}
 use Rattle.book.specs.Book.{grants, first_no}
 use Rattle.book.specs.Call.Call.{Fix}
 use Rattle.book.specs.declared.grant.Kind.TheVariants.{Reading, Updating}
 use Rattle.frames.specs.Table.{Frame, frame, pins}
 use Rattle.frames.specs.declared.slot.Slot.{Slot}
-use Rattle.pool.specs.Did.{Did}
 use Rattle.pool.specs.Meaning.{book, pins_at}
 use Rattle.pool.specs.Steps.{Room, early, fixed_answer}
 use Rattle.pool.specs.declared.vacancy.Vacancy.{Vacancy}
 use Rattle.pool.proofs.Asking.{early_no, full_no, room_no, room-yes, seat_yes}
-use Rattle.pool.proofs.Doings.{did-refused, did_fix, exit_err, none_err, verdict-none, verdict-some}
+use Rattle.pool.proofs.Doings.{did-refused, did_fix, exit_refused, none_err, verdict-none, verdict-some}
 use Rattle.pool.proofs.Holding.{held_all, held-some, held-vacant}
 use Rattle.pool.proofs.Places.{at_here, at_out}
 use Rattle.pool.proofs.pool.Pool.fix_kind.Goals as goal
@@ -25,21 +23,15 @@ slot-many x y m n e h l k = let z = ap pins e in omega (arith, z)
 
 pub returns-in_err-ask : goal.returns-in_err-ask
 returns-in_err-ask g c =
-    let d = g.D.Device in
-    let p = g.P.Policy in
     let pool = c.args.self.now in
     let b = book pool in
     let kind = c.args.kind in
     let q = c.args.page in
-    let out = exit_err c.from_residual.result _ c.from_residual.ensures.1 in
     let no-early = verdict-some (first_no (early b kind q)) _ (sym c.in_err-ask.was ∙ c.ask.ensures.answer) in
-    let A : Result (Unit {0}) Refusal → Type 0 = λ r. Did pool (Fix kind q) (fixed_answer r kind pool.mark q) pool in
-    subst A (sym out) (did-refused pool (Fix kind q) _ (early_no b kind q _ no-early))
+    exit_refused pool (Fix kind q) (λ r. fixed_answer r kind pool.mark q) (λ e. refl) c.from_residual.result _ c.from_residual.ensures.1 (early_no b kind q _ no-early)
 
 pub returns-then-pins-ge-MOST_PINS : goal.returns-then-pins-ge-MOST_PINS
 returns-then-pins-ge-MOST_PINS g c =
-    let d = g.D.Device in
-    let p = g.P.Policy in
     let pool = c.args.self.now in
     let b = book pool in
     let kind = c.args.kind in
@@ -52,8 +44,6 @@ returns-then-pins-ge-MOST_PINS g c =
 
 pub returns-in-Some : goal.returns-in-Some
 returns-in-Some g c =
-    let d = g.D.Device in
-    let p = g.P.Policy in
     let pool = c.args.self.now in
     let b = book pool in
     let kind = c.args.kind in
@@ -69,8 +59,6 @@ returns-in-Some g c =
 
 pub returns-in_err-vacancy : goal.returns-in_err-vacancy
 returns-in_err-vacancy g c =
-    let d = g.D.Device in
-    let p = g.P.Policy in
     let pool = c.args.self.now in
     let b = book pool in
     let kind = c.args.kind in
@@ -81,14 +69,11 @@ returns-in_err-vacancy g c =
     let no : c.room.result ≡ None = c.in_err-vacancy.ensures.ok_part in
     let R : Option Vacancy → Type 0 = λ v. Room pool t v in
     let full = subst R no c.room.ensures in
-    let err = exit_err c.from_residual-in_err-vacancy.result _ c.from_residual-in_err-vacancy.ensures.1 ∙ ap Err (none_err c.room.result _ NoFrame no c.in_err-vacancy.ensures.value) in
-    let A : Result (Unit {0}) Refusal → Type 0 = λ r. Did pool (Fix kind q) (fixed_answer r kind pool.mark q) pool in
-    subst A (sym err) (did-refused pool (Fix kind q) NoFrame (room_no b kind q may none (held_all pool full.0 full.1)))
+    let is = none_err c.room.result _ NoFrame no c.in_err-vacancy.ensures.value in
+    exit_refused pool (Fix kind q) (λ r. fixed_answer r kind pool.mark q) (λ e. refl) c.from_residual-in_err-vacancy.result _ c.from_residual-in_err-vacancy.ensures.1 (room_no b kind q may none (held_all pool full.0 full.1) ∙ sym (ap Some is))
 
 pub returns : goal.returns
 returns g c =
-    let d = g.D.Device in
-    let p = g.P.Policy in
     let pool = c.args.self.now in
     let b = book pool in
     let kind = c.args.kind in
