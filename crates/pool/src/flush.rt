@@ -42,13 +42,12 @@ impl<D: Device, P: Policy> Pool<D, P> {
     }
 
     // Writes all back and hands the device out.
-    pub fn close(self) -> D
+    pub fn close(mut self) -> D
     where
         P: Drop,
         ensures { DidClose self result }
     {
-        let mut pool = self;
-        pool.flush_all();
+        self.flush_all();
         let Pool {
             device,
             policy: _,
@@ -57,7 +56,7 @@ impl<D: Device, P: Policy> Pool<D, P> {
             clock: _,
             hits: _,
             fetches: _,
-        } = pool;
+        } = self;
         device
     }
 

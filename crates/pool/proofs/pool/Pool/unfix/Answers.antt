@@ -18,10 +18,10 @@ returns-in_err-place g c = exit_refused c.args.self.now (Unfix (ticket g.K.Purpo
 pub invariant_of-self : goal.invariant_of-self
 invariant_of-self g c =
     let pool = c.args.self.now in
-    let k = unpinned_kept pool g.K.Purpose.KIND c.in_ok-place.place.index c.unpin.new.self c.in_ok-place.ensures.1 c.unpin.ensures.used (λ j. c.unpin.ensures.frames j ∙ ap (one-less pool.frames c.in_ok-place.place.index j) c.KIND.ensures) in
+    let k = unpinned_kept pool g.K.Purpose.KIND c.in_ok-place.place.index c.unpin.new.self c.in_ok-place.ensures.1 c.unpin.ensures.used (λ j. c.unpin.ensures.frames j ∙ ap (one-less pool.frames c.in_ok-place.place.index j) c.KIND-kind.ensures) in
     record { tied = k.0; counts = k.1 }
 
 pub returns : goal.returns
 returns g c =
     let out = c.in_ok-place.ensures in
-    did_unfix c.args.self.now (ticket g.K.Purpose c.args.grant) c.in_ok-place.place.index c.unpin.new.self (_, _) out.0 out.1 out.2 c.unpin.ensures.used (λ j. c.unpin.ensures.frames j ∙ ap (one-less c.args.self.now.frames c.in_ok-place.place.index j) c.KIND.ensures)
+    did_unfix c.args.self.now (ticket g.K.Purpose c.args.grant) c.in_ok-place.place.index c.unpin.new.self (_, _) out.0 out.1 out.2 c.unpin.ensures.used (λ j. c.unpin.ensures.frames j ∙ ap (one-less c.args.self.now.frames c.in_ok-place.place.index j) c.KIND-kind.ensures)
