@@ -54,10 +54,10 @@ overwritten f offset new = if_ok (fits offset (length new)) (changed_by f offset
 pub record DidStore {D : Type 0} (d : device.Ghosts D) (f : Frame) (below : D) (f' : Frame) (below' : D) : Type 0 where
   pub frame : f' ≡ with_slot f (marked false f.slot)
   pub clean : f.slot.changed ≡ false → below' ≡ below
-  pub dirty : f.slot.changed ≡ true → (r : Result (Unit {0}) Refusal) × DidWrite (d.size below) (d.row below) (page_in f) f.bytes r (d.valid below') (d.size below') (d.row below')
+  pub dirty : f.slot.changed ≡ true → (r : Result (Unit {0}) Refusal) × DidWrite (d.size below) (d.row below) (page_in f) f.bytes r (d.size below') (d.row below')
 
 -- What loading a page did: the device was read, and the frame has the page with one grant out, and
 -- what the read left of the bytes that it had.
 pub record DidLoad {D : Type 0} (d : device.Ghosts D) (f : Frame) (kind : Kind) (page : ℕ) (below : D) (f' : Frame) (below' : D) : Type 0 where
   pub slot : f'.slot ≡ fresh kind page
-  pub read : (r : Result (Unit {0}) Refusal) × DidRead (d.size below) (d.row below) page f.bytes r (d.valid below') (d.size below') (d.row below') f'.bytes
+  pub read : (r : Result (Unit {0}) Refusal) × DidRead (d.size below) (d.row below) page f.bytes r (d.size below') (d.row below') f'.bytes

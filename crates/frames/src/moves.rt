@@ -31,7 +31,7 @@ impl Frames {
 
     // Hands the bytes at a place to the device.
     fn send<D: Device>(&self, place: Place, device: &mut D) -> Result<(), Refusal>
-        ensures { D.Device.valid device.old → DidWrite (D.Device.size device.old) (D.Device.row device.old) (frame_at self.now place.index).slot.page (frame_at self.now place.index).bytes result (D.Device.valid device.new) (D.Device.size device.new) (D.Device.row device.new) }
+        ensures { DidWrite (D.Device.size device.old) (D.Device.row device.old) (frame_at self.now place.index).slot.page (frame_at self.now place.index).bytes result (D.Device.size device.new) (D.Device.row device.new) }
     {
         device.write(self.slots[place.index].page, &self.data[place.index])
     }
@@ -40,7 +40,7 @@ impl Frames {
     pub fn write_back<D: Device>(&mut self, place: Place, device: &mut D)
         ensures used { self.new.used ≡ self.old.used }
         ensures frames { (j : ℕ) → frame_at self.new j ≡ with (frame_at self.old) place.index (frame_at self.new place.index) j }
-        ensures did { D.Device.valid device.old → DidStore D.Device (frame_at self.old place.index) device.old (frame_at self.new place.index) device.new }
+        ensures did { DidStore D.Device (frame_at self.old place.index) device.old (frame_at self.new place.index) device.new }
     {
         if self.slots[place.index].changed {
             let _ = self.send(place, device);
@@ -52,7 +52,7 @@ impl Frames {
     pub fn load<D: Device>(&mut self, place: Place, kind: Kind, page: u32, device: &mut D)
         ensures used { self.new.used ≡ max self.old.used (place.index + 1) }
         ensures frames { (j : ℕ) → frame_at self.new j ≡ with (frame_at self.old) place.index (frame_at self.new place.index) j }
-        ensures did { D.Device.valid device.old → DidLoad D.Device (frame_at self.old place.index) kind page device.old (frame_at self.new place.index) device.new }
+        ensures did { DidLoad D.Device (frame_at self.old place.index) kind page device.old (frame_at self.new place.index) device.new }
     {
         let _ = device.read(page, &mut self.data[place.index]);
         self.slots[place.index] = Slot::fresh(kind, page);

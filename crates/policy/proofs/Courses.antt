@@ -1,9 +1,10 @@
 -- A run, one reference after another.
-use Rattle.std.proofs.Common.{◌≡◌, ℕ, ◌+◌, ◌-◌, ◌<◌, ◌≤◌, Bool, true, false, cond, List, [], ◌∷◌, ◌++◌, length, get_or, take, drop, sym, refl, ap, ◌∙◌, subst, arith}
+use Rattle.std.proofs.Common.{◌≡◌, ℕ, ◌+◌, ◌-◌, ◌<◌, ◌≤◌, List, [], ◌∷◌, ◌++◌, length, get_or, take, drop, sym, ap, ◌∙◌, subst, arith}
 use Rattle.std.proofs.lemmas.List.{drop_more, drop-drop, at_drop_all, length-take, length-take-le}
-use Rattle.policy.specs.Runs.{Turn, turn, Course, start, onward, refer, run, hit_by, hits, fetches, reach, DidRun}
+use Rattle.policy.specs.Runs.{Turn, turn, Course, start, onward, refer, run, hits, reach, DidRun}
 use Rattle.policy.specs.declared.outcome.Outcome.{Outcome}
 use Rattle.policy.specs.declared.policy.Policy as policy
+use Rattle.policy.proofs.Tallies.{all-counted}
 
 module _ {P : Type 0} (g : policy.Ghosts P) where
   abbrev pub at : g.Model → List ℕ → List Outcome → Course g.Model
@@ -23,14 +24,6 @@ module _ {P : Type 0} (g : policy.Ghosts P) where
       → run g (at m held os) (drop i s) ≡ end → run g (at m' held' os') (drop (i + 1) s) ≡ end
   run_on m m' held held' os os' o s i x t end l e ex et eo er =
       run_more m m' held held' os os' o s i l (e ∙ (λ j. turn g m held (ex j) (et j))) eo ∙ er
-
-pub all-counted : (os : List Outcome) → hits os + fetches os ≡ length os
-all-counted [] = refl
-all-counted (o ∷ os) = step (hit_by o) (all-counted os)
-  where
-    step : (b : Bool) → hits os + fetches os ≡ length os → (cond b 1 0 + hits os) + (cond b 0 1 + fetches os) ≡ length (o ∷ os)
-    step true h = omega arith
-    step false h = omega arith
 
 pub drop-one-more : {X : Type 0} (xs ys : List X) (i : ℕ) → drop i xs ≡ drop i ys → drop (i + 1) xs ≡ drop (i + 1) ys
 drop-one-more xs ys i e = sym (drop-drop 1 i xs) ∙ ap (drop 1) e ∙ drop-drop 1 i ys

@@ -1,4 +1,4 @@
 pub mod Frames
-pub mod Held
+pub mod Once
 pub mod Runs
 pub mod Sets

@@ -1,15 +1,16 @@
 -- A set of pages as a test, and what the calls of a policy make of it.
 use Rattle.std.specs.Prelude.{◌≡◌, ℕ, ◌+◌, ◌≤◌, Bool, true, false, cond, List, [], ◌∷◌, length, Some, None, Option, ◌==◌, nat_lt}
-
--- Whether a page stands in a list.
-abbrev pub member : ℕ → List ℕ → Bool
-member q [] = false
-member q (x ∷ xs) = cond (x == q) true (member q xs)
+pub use Rattle.recency.specs.Recent.{member}
 
 -- No page stands twice.
 abbrev pub distinct : List ℕ → Bool
 distinct [] = true
 distinct (x ∷ xs) = cond (member x xs) false (distinct xs)
+
+-- How often a page stands in a list.
+abbrev pub count : ℕ → List ℕ → ℕ
+count p [] = 0
+count p (x ∷ xs) = cond (x == p) 1 0 + count p xs
 
 -- A set has n pages: there is a list of them, each once.
 abbrev pub Counted : (ℕ → Bool) → ℕ → Type 0

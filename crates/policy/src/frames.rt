@@ -17,7 +17,7 @@ impl FrameCount {
     pub fn new(number: u32) -> Result<FrameCount, Refusal>
         ensures { MatchResult result (λ f. InRange number × (f.value ≡ number)) (λ e. OutOfRange number × (e ≡ refusal.FrameCount)) }
     {
-        if number < 4 || number > 64 {
+        if !(4..=64).contains(&number) {
             return Err(Refusal::FrameCount);
         }
         Ok(FrameCount { value: number })
@@ -29,5 +29,15 @@ impl FrameCount {
         ensures most { result ≤ 64 }
     {
         self.value
+    }
+}
+
+impl TryFrom<u32> for FrameCount {
+    type Error = Refusal;
+
+    fn try_from(number: u32) -> Result<FrameCount, Refusal>
+        ensures { MatchResult result (λ f. InRange number × (f.value ≡ number)) (λ e. OutOfRange number × (e ≡ refusal.FrameCount)) }
+    {
+        FrameCount::new(number)
     }
 }

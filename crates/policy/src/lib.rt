@@ -2,7 +2,6 @@
 #![tactic(auto)]
 
 mod frames;
-mod held;
 mod outcome;
 mod places;
 mod policy;

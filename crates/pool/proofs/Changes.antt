@@ -7,7 +7,7 @@ use Rattle.book.specs.declared.grant.Kind.{Kind}
 use Rattle.book.specs.declared.grant.Kind.TheVariants.{Reading, Updating}
 use Rattle.frames.specs.Table.{Frame, page_in, at, with, with_pins, with_slot}
 use Rattle.pool.specs.Meaning.{shown, pins_at}
-use Rattle.pool.specs.Sound.{Stands, Once, Tied}
+use Rattle.pool.specs.Tied.{Stands, Once, Tied}
 use Rattle.pool.proofs.Places.{at_come, at_stay, at_here, once-with}
 
 module _ (n : ℕ) (F : ℕ → Frame) (i : ℕ) (f : Frame) (n' : ℕ) (F' : ℕ → Frame) (used : n' ≡ n) (low : i < n) (once : Once n F) (same : page_in f ≡ page_in (F i)) (is : (j : ℕ) → F' j ≡ with F i f j) where

@@ -8,7 +8,7 @@ use Rattle.frames.specs.Table.{Frame, page_in, at, pins, idle}
 use Rattle.frames.specs.declared.place.Place.{Place}
 use Rattle.book.specs.declared.grant.Kind.TheVariants.{Reading, Updating}
 use Rattle.pool.specs.Meaning.{pins_at}
-use Rattle.pool.specs.Sound.{Tied}
+use Rattle.pool.specs.Tied.{Tied}
 use Rattle.pool.specs.Steps.{Vacated}
 use Rattle.pool.proofs.Counting.{idle_at, idle-member}
 use Rattle.pool.proofs.Places.{at_here}

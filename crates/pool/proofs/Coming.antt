@@ -11,7 +11,7 @@ use Rattle.frames.specs.Calls.{Absent}
 use Rattle.frames.specs.Table.{Frame, page_in, at, pins, fresh, with}
 use Rattle.frames.specs.declared.slot.Slot.{Slot}
 use Rattle.pool.specs.Meaning.{shown, pins_at}
-use Rattle.pool.specs.Sound.{Stands, Once, Tied}
+use Rattle.pool.specs.Tied.{Stands, Once, Tied}
 use Rattle.pool.specs.Steps.{Vacated}
 use Rattle.pool.proofs.Places.{at_out, at_here, at_come, at_gone, at_stay, once-with, at_more, once_more, some-none}
 use Rattle.pool.proofs.Storing.{clean-over}

@@ -8,7 +8,7 @@ use Rattle.book.specs.declared.grant.Kind.TheVariants.{Reading, Updating}
 use Rattle.frames.specs.Calls.{Absent}
 use Rattle.frames.specs.Table.{Frame, page_in, at, pins, idle}
 use Rattle.pool.specs.Meaning.{pins_at}
-use Rattle.pool.specs.Sound.{Once}
+use Rattle.pool.specs.Tied.{Once}
 use Rattle.pool.proofs.Places.{at_out}
 
 -- how many of the first n frames have a grant out

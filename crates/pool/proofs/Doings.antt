@@ -16,7 +16,6 @@ use Rattle.turns.specs.Turns.{Course, named, unless, resident_after, Fixed, Turn
 use Rattle.pool.specs.declared.pool.Pool.{Pool}
 use Rattle.pool.specs.Did.{Did}
 use Rattle.pool.specs.Meaning.{book, course}
-use Rattle.pool.specs.Sound.{Sound}
 use Rattle.pool.specs.Steps.{verdict, Left, DidTake}
 use Rattle.pool.proofs.Places.{some-none}
 
@@ -45,44 +44,42 @@ verdict-none (Some x) e = let z : ◌≡◌ {A = ℕ} 0 1 = cc in absurd (omega 
 pub exit_err : {A : Type 0} (r : Result A Refusal) (e : Refusal) → IsErrAnd r (λ y. y ≡ e) → r ≡ Err e
 exit_err r e h = let p = err_from_is_err_and r h in p.1 ∙ ap Err p.2
 
-module _ {D P : Type 0} (d : device.Ghosts D) (p : policy.Ghosts P) where
-  -- no turn of the policy's
-  pub no_turn : (b : Book) (x x' : Course p.Model) (call : Call) → unless (refusal b call) (named call) ≡ None → x' ≡ x → Turned p b x call [] x'
-  no_turn b x x' call e h =
-      let T : Option ℕ → Type 0 = λ o. MatchOption o ((x' ≡ x) × (◌≡◌ {A = List Outcome} [] [])) (Fixed p b x [] x') in
-      subst T (sym e) (h, refl)
+-- no turn of the policy's
+pub no_turn : {P : Type 0} (p : policy.Ghosts P) (b : Book) (x x' : Course p.Model) (call : Call) → unless (refusal b call) (named call) ≡ None → x' ≡ x → Turned p b x call [] x'
+no_turn p b x x' call e h =
+    let T : Option ℕ → Type 0 = λ o. MatchOption o ((x' ≡ x) × (◌≡◌ {A = List Outcome} [] [])) (Fixed p b x [] x') in
+    subst T (sym e) (h, refl)
 
-  pub did-refused : (pool : Pool D P) (call : Call) (r : Refusal) → Sound d p pool → refusal (book d p pool) call ≡ Some r → Did d p pool call (Refused r) pool
-  did-refused pool call r s e = record {
-    sound = s;
+-- the page that left was resident, and is no more
+left-gone : (was is : ℕ → Bool) (page : ℕ) (o : Outcome) (q : ℕ) → ((k : ℕ) → is k ≡ resident_after was page o k) → Left o q → was q ≡ true → q ≢ page → cond (was q) (cond (is q) false true) false ≡ true
+left-gone was is page Hit q r l w ne = absurd l
+left-gone was is page (Fetch out) q r l w ne =
+    let gone : is q ≡ false = r q ∙ ap (λ (x : Option ℕ). resident_after was page (Fetch x) q) l ∙ cond-false (eqb q page) true (cond (eqb q q) false (was q)) (ne_eqb q page ne) ∙ cond-true (eqb q q) false (was q) (eq-eqb q q refl) in
+    cond-true (was q) (cond (is q) false true) false w ∙ cond-false (is q) false true gone
+
+module _ {D P : Type 0} {d : device.Ghosts D} {p : policy.Ghosts P} where
+  pub did-refused : (pool : Pool D P d p) (call : Call) (r : Refusal) → refusal (book pool) call ≡ Some r → Did pool call (Refused r) pool
+  did-refused pool call r e = record {
     outcomes = [];
     doing = record {
       step = record {
-        answer = says-refused (book d p pool) call r e;
-        after = next-refused (book d p pool) call r e;
+        answer = says-refused (book pool) call r e;
+        after = next-refused (book pool) call r e;
         moved = λ q. inl refl;
         flushed = λ q f. absurd (some-none r (sym e ∙ f.accepted));
       };
-      turned = no_turn (book d p pool) _ _ call (ap (λ (o : Option Refusal). unless o (named call)) e) refl;
+      turned = no_turn p (book pool) _ _ call (ap (λ (o : Option Refusal). unless o (named call)) e) refl;
     };
     refused = λ x h. refl;
     still = λ h. refl;
     apart = λ q h. refl;
   }
 
-  -- the page that left was resident, and is no more
-  left-gone : (was is : ℕ → Bool) (page : ℕ) (o : Outcome) (q : ℕ) → ((k : ℕ) → is k ≡ resident_after was page o k) → Left o q → was q ≡ true → q ≢ page → cond (was q) (cond (is q) false true) false ≡ true
-  left-gone was is page Hit q r l w ne = absurd l
-  left-gone was is page (Fetch out) q r l w ne =
-      let gone : is q ≡ false = r q ∙ ap (λ (x : Option ℕ). resident_after was page (Fetch x) q) l ∙ cond-false (eqb q page) true (cond (eqb q q) false (was q)) (ne_eqb q page ne) ∙ cond-true (eqb q q) false (was q) (eq-eqb q q refl) in
-      cond-true (was q) (cond (is q) false true) false w ∙ cond-false (is q) false true gone
-
-  pub did_fix : (pool pool' : Pool D P) (kind : Kind) (page : ℕ) → refusal (book d p pool) (Fix kind page) ≡ None → DidTake d p pool kind page (pool.clock + 1) pool' → Did d p pool (Fix kind page) (Granted (record { kind = kind; mark = pool.mark; page = page })) pool'
+  pub did_fix : (pool pool' : Pool D P d p) (kind : Kind) (page : ℕ) → refusal (book pool) (Fix kind page) ≡ None → DidTake pool kind page (pool.clock + 1) pool' → Did pool (Fix kind page) (Granted (record { kind = kind; mark = pool.mark; page = page })) pool'
   did_fix pool pool' kind page e t =
-      let b = book d p pool in
-      let T : Option ℕ → Type 0 = λ o. MatchOption o ((course d p pool' ≡ course d p pool) × (t.outcome ∷ [] ≡ [])) (Fixed p b (course d p pool) (t.outcome ∷ []) (course d p pool')) in
+      let b = book pool in
+      let T : Option ℕ → Type 0 = λ o. MatchOption o ((course pool' ≡ course pool) × (t.outcome ∷ [] ≡ [])) (Fixed p b (course pool) (t.outcome ∷ []) (course pool')) in
       record {
-        sound = t.sound;
         outcomes = t.outcome ∷ [];
         doing = record {
           step = record {

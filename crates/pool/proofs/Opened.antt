@@ -5,7 +5,7 @@ use Rattle.book.specs.Life.{Sight, Opens}
 use Rattle.book.proofs.Lives.{lives, agree}
 use Rattle.frames.specs.Table.{Frame}
 use Rattle.pool.specs.Promise.{Promised}
-use Rattle.pool.specs.Sound.{Stands, Tied}
+use Rattle.pool.specs.Tied.{Stands, Tied}
 use Rattle.pool.proofs.Books.{at_free}
 
 pub tied-free : (n : ℕ) (F : ℕ → Frame) (row : Row) (res : ℕ → Bool) (size : ℕ) → n ≡ 0 → ((q : ℕ) → res q ≡ false) → size ≡ 0 → Tied n F row res size

@@ -3,7 +3,7 @@ use Rattle.std.proofs.Common.{◌≡◌, ℕ, zero, suc, ◌<◌, cond, eqb, ◌
 use Rattle.std.proofs.lemmas.Bool.{eq-eqb, ne_eqb, cond-true, cond-false, cases_eq}
 use Rattle.frames.specs.Calls.{Absent}
 use Rattle.frames.specs.Table.{Frame, page_in, at, with}
-use Rattle.pool.specs.Sound.{Once}
+use Rattle.pool.specs.Tied.{Once}
 
 pub some-none : {X : Type 0} (x : X) → Some x ≡ None → ⊥
 some-none x e = let z : ◌≡◌ {A = ℕ} 0 1 = cc in omega arith

@@ -8,7 +8,7 @@ use Rattle.book.specs.declared.grant.Kind.{Kind}
 use Rattle.book.specs.declared.grant.Kind.TheVariants.{Reading, Updating}
 use Rattle.frames.specs.Table.{Frame, page_in, at, with_pins, with_slot}
 use Rattle.pool.specs.Meaning.{shown}
-use Rattle.pool.specs.Sound.{Stands, Tied}
+use Rattle.pool.specs.Tied.{Stands, Tied}
 use Rattle.pool.proofs.Places.{at_here}
 use Rattle.pool.proofs.Storing.{clean-over}
 

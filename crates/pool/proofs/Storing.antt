@@ -1,11 +1,11 @@
 -- A frame that is written back.
-use Rattle.std.proofs.Common.{◌≡◌, ℕ, false, eqb, ◌≢◌, List, Some, None, Option, sym, refl, ap, ◌∙◌, subst, inl, inr}
+use Rattle.std.proofs.Common.{◌≡◌, ℕ, false, eqb, ◌≢◌, List, Some, None, Option, sym, refl, ap, ◌∙◌, inl, inr}
 use Rattle.std.proofs.lemmas.Bool.{cond-true, cond-false, eq-eqb, ne_eqb, cases_Bool}
 use Rattle.device.specs.Row.{Page, sound, worn, lost, over_at}
 use Rattle.device.specs.declared.device.Device as device
 use Rattle.frames.specs.Calls.{DidStore}
 use Rattle.frames.specs.Table.{Frame, page_in}
-use Rattle.pool.specs.Sound.{Stands}
+use Rattle.pool.specs.Tied.{Stands}
 use Rattle.pool.specs.Steps.{cleaned}
 
 -- a frame that is not changed has the device's page
@@ -29,19 +29,17 @@ cleaned-stands f (Some (lost x)) h = absurd h.1
 
 -- What writing a frame back leaves of the device.
 pub record Stored {D : Type 0} (d : device.Ghosts D) (f : Frame) (below below' : D) : Type 0 where
-  pub valid : d.valid below'
   pub size : d.size below' ≡ d.size below
   pub here : d.row below' (page_in f) ≡ over_at (d.row below (page_in f)) f.bytes
   pub other : (q : ℕ) → page_in f ≢ q → d.row below' q ≡ d.row below q
 
-pub stored : {D : Type 0} (d : device.Ghosts D) (f f' : Frame) (below below' : D) → d.valid below → DidStore d f below f' below' → Stands (Some f) (d.row below (page_in f)) → Stored d f below below'
-stored d f f' below below' v h s =
+pub stored : {D : Type 0} (d : device.Ghosts D) (f f' : Frame) (below below' : D) → DidStore d f below f' below' → Stands (Some f) (d.row below (page_in f)) → Stored d f below below'
+stored d f f' below below' h s =
     elim (cases_Bool f.slot.changed) [
       | inl y ↦
           (let w = (h.dirty y).1 in
           let p = page_in f in
           record {
-            valid = w.valid;
             size = w.size;
             here = w.row p ∙ cond-true (eqb p p) (over_at (d.row below p) f.bytes) (d.row below p) (eq-eqb p p refl);
             other = λ q ne. w.row q ∙ cond-false (eqb q p) (over_at (d.row below q) f.bytes) (d.row below q) (ne_eqb q p (λ e. ne (sym e)));
@@ -49,7 +47,6 @@ stored d f f' below below' v h s =
       | inr z ↦
           (let e = h.clean z in
           record {
-            valid = subst d.valid (sym e) v;
             size = ap d.size e;
             here = ap (λ b. d.row b (page_in f)) e ∙ sym (clean-over f (d.row below (page_in f)) s z);
             other = λ q ne. ap (λ b. d.row b q) e;

@@ -9,27 +9,22 @@ use Rattle.book.specs.Call.{Call, Answer}
 use Rattle.book.specs.Call.Call.{Fix, Read, Write, Unfix, Flush, FlushAll, Close}
 use Rattle.book.specs.Call.Answer.{Granted, Copied, Done, Refused}
 use Rattle.book.specs.Life.{Step}
-use Rattle.book.specs.declared.grant.Kind.TheVariants.{Reading, Updating}
 use Rattle.book.specs.declared.grant.Ticket.{Ticket}
 use Rattle.turns.specs.Lived.{Doing}
 use Rattle.turns.specs.Turns.{Course}
-use Rattle.pool.specs.declared.grant.ReadGrant.{ReadGrant}
-use Rattle.pool.specs.declared.grant.UpdateGrant.{UpdateGrant}
+use Rattle.pool.specs.declared.grant.Grant.{Grant}
 use Rattle.pool.specs.declared.pool.Pool.{Pool}
+use Rattle.pool.specs.declared.purpose.Purpose as purpose
 use Rattle.pool.specs.Meaning.{book, sight, course, scene}
-use Rattle.pool.specs.Sound.{Sound}
 
 -- A grant as the book hears of it.
-abbrev pub to_read : ReadGrant → Ticket
-to_read g = record { kind = Reading; mark = g.mark; page = g.page }
-
-abbrev pub to_update : UpdateGrant → Ticket
-to_update g = record { kind = Updating; mark = g.mark; page = g.page }
+abbrev pub ticket : {K : Type 0} (k : purpose.Ghosts K) → Grant K → Ticket
+ticket k g = record { kind = k.KIND; mark = g.mark; page = g.page }
 
 -- Answers as the book gives them.
 abbrev pub granted : {G : Type 0} → (G → Ticket) → Result G Refusal → Answer
-granted ticket (Ok g) = Granted (ticket g)
-granted ticket (Err e) = Refused e
+granted told (Ok g) = Granted (told g)
+granted told (Err e) = Refused e
 
 abbrev pub copied : Result (Unit {0}) Refusal → List ℕ → Answer
 copied (Ok x) bytes = Copied bytes
@@ -40,11 +35,8 @@ done (Ok x) = Done
 done (Err e) = Refused e
 
 -- A grant that was just given.
-abbrev pub read_grant : ℕ → ℕ → ReadGrant
-read_grant mark page = record { mark = mark; page = page; spent = false }
-
-abbrev pub update_grant : ℕ → ℕ → UpdateGrant
-update_grant mark page = record { mark = mark; page = page; spent = false }
+abbrev pub given : {K : Type 0} → ℕ → ℕ → Grant K
+given mark page = record { mark = mark; page = page; spent = false; purpose = record {} }
 
 abbrev pub Gives : {G : Type 0} → Result G Refusal → G → Type 0
 Gives (Ok g) given = g ≡ given
@@ -72,46 +64,41 @@ may_write Close was is q = true
 
 -- What a call did: the answer, the next book and what became of the pages below are the book's, the
 -- policy took its turn, a refusal left the whole pool as it was, and no more was written than may be.
-pub record Did {D P : Type 0} (d : device.Ghosts D) (p : policy.Ghosts P) (pool : Pool D P) (call : Call) (a : Answer) (pool' : Pool D P) : Type 0 where
-  pub sound : Sound d p pool'
+pub record Did {D P : Type 0} {d : device.Ghosts D} {p : policy.Ghosts P} (pool : Pool D P d p) (call : Call) (a : Answer) (pool' : Pool D P d p) : Type 0 where
   pub outcomes : List Outcome
-  pub doing : Doing p (scene d p pool) call a outcomes (scene d p pool')
-  pub refused : (r : Refusal) → refusal (book d p pool) call ≡ Some r → pool' ≡ pool
+  pub doing : Doing p (scene pool) call a outcomes (scene pool')
+  pub refused : (r : Refusal) → refusal (book pool) call ≡ Some r → pool' ≡ pool
   pub still : reaches call ≡ false → pool'.device ≡ pool.device
   pub apart : (q : ℕ) → may_write call (p.resident (p.model pool.policy)) (p.resident (p.model pool'.policy)) q ≡ false → d.row pool'.device q ≡ d.row pool.device q
 
 -- What a read under a grant did: as any call, and the pool is as it was; on a refusal, so is the buffer.
-pub record DidCopy {D P : Type 0} (d : device.Ghosts D) (p : policy.Ghosts P) (pool : Pool D P) (ticket : Ticket) (offset : ℕ) (old : List ℕ) (r : Result (Unit {0}) Refusal) (new : List ℕ) : Type 0 where
-  pub did : Did d p pool (Read ticket offset (length old)) (copied r new) pool
+pub record DidCopy {D P : Type 0} {d : device.Ghosts D} {p : policy.Ghosts P} (pool : Pool D P d p) (ticket : Ticket) (offset : ℕ) (old : List ℕ) (r : Result (Unit {0}) Refusal) (new : List ℕ) : Type 0 where
+  pub did : Did pool (Read ticket offset (length old)) (copied r new) pool
   pub buffer : is_ok r ≡ false → new ≡ old
 
 -- What an opening did.
-pub record DidOpen {D P : Type 0} (d : device.Ghosts D) (p : policy.Ghosts P) (below : D) (policy : P) (mark : ℕ) (pool : Pool D P) : Type 0 where
-  pub sound : d.valid below → Sound d p pool
+pub record DidOpen {D P : Type 0} {d : device.Ghosts D} {p : policy.Ghosts P} (below : D) (policy : P) (mark : ℕ) (pool : Pool D P d p) : Type 0 where
   pub device : pool.device ≡ below
-  pub book : book d p pool ≡ opened (d.size below) (p.bound (p.model policy)) mark (d.row below)
-  pub course : ◌≡◌ {A = Course p.Model} (course d p pool) (record { model = p.emptied (p.model policy); hits = 0; fetches = 0 })
+  pub book : book pool ≡ opened (d.size below) (p.bound (p.model policy)) mark (d.row below)
+  pub course : ◌≡◌ {A = Course p.Model} (course pool) (record { model = p.emptied (p.model policy); hits = 0; fetches = 0 })
 
 -- What an opening at another time than 0 did.
 abbrev pub at_time : Book → ℕ → Book
 at_time b t = record { size = b.size; bound = b.bound; mark = b.mark; clock = t; pages = b.pages; reading = b.reading; updating = b.updating }
 
-pub record DidOpenAt {D P : Type 0} (d : device.Ghosts D) (p : policy.Ghosts P) (below : D) (policy : P) (mark t : ℕ) (pool : Pool D P) : Type 0 where
-  pub sound : d.valid below → Sound d p pool
+pub record DidOpenAt {D P : Type 0} {d : device.Ghosts D} {p : policy.Ghosts P} (below : D) (policy : P) (mark t : ℕ) (pool : Pool D P d p) : Type 0 where
   pub device : pool.device ≡ below
-  pub book : book d p pool ≡ at_time (opened (d.size below) (p.bound (p.model policy)) mark (d.row below)) t
-  pub course : ◌≡◌ {A = Course p.Model} (course d p pool) (record { model = p.emptied (p.model policy); hits = 0; fetches = 0 })
+  pub book : book pool ≡ at_time (opened (d.size below) (p.bound (p.model policy)) mark (d.row below)) t
+  pub course : ◌≡◌ {A = Course p.Model} (course pool) (record { model = p.emptied (p.model policy); hits = 0; fetches = 0 })
 
 -- What a close did: the device handed out holds the book's pages.
-pub record DidClose {D P : Type 0} (d : device.Ghosts D) (p : policy.Ghosts P) (pool : Pool D P) (below : D) : Type 0 where
-  pub valid : d.valid below
+pub record DidClose {D P : Type 0} {d : device.Ghosts D} {p : policy.Ghosts P} (pool : Pool D P d p) (below : D) : Type 0 where
   pub size : d.size below ≡ d.size pool.device
-  pub row : (q : ℕ) → d.row below q ≡ (book d p pool).pages q
-  pub step : Step (sight d p pool) Close Done (record { book = book d p pool; below = d.row below })
+  pub row : (q : ℕ) → d.row below q ≡ (book pool).pages q
+  pub step : Step (sight pool) Close Done (record { book = book pool; below = d.row below })
 
 -- What a renewal did: all is written back, and the pool is as one that was just opened.
-pub record DidRenew {D P : Type 0} (d : device.Ghosts D) (p : policy.Ghosts P) (pool pool' : Pool D P) : Type 0 where
-  pub sound : Sound d p pool'
-  pub row : (q : ℕ) → d.row pool'.device q ≡ (book d p pool).pages q
-  pub book : book d p pool' ≡ opened (book d p pool).size (book d p pool).bound pool.mark (book d p pool).pages
-  pub course : ◌≡◌ {A = Course p.Model} (course d p pool') (record { model = p.emptied (p.model pool.policy); hits = 0; fetches = 0 })
+pub record DidRenew {D P : Type 0} {d : device.Ghosts D} {p : policy.Ghosts P} (pool pool' : Pool D P d p) : Type 0 where
+  pub row : (q : ℕ) → d.row pool'.device q ≡ (book pool).pages q
+  pub book : book pool' ≡ opened (book pool).size (book pool).bound pool.mark (book pool).pages
+  pub course : ◌≡◌ {A = Course p.Model} (course pool') (record { model = p.emptied (p.model pool.policy); hits = 0; fetches = 0 })

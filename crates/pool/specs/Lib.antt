@@ -1,5 +1,5 @@
 pub mod Did
 pub mod Meaning
 pub mod Promise
-pub mod Sound
 pub mod Steps
+pub mod Tied

@@ -23,11 +23,11 @@ pins_at kind None = 0
 pins_at kind (Some f) = pins_of kind f.slot
 
 -- The frame that a page is in, if any.
-abbrev pub held : {D P : Type 0} → Pool D P → ℕ → Option Frame
+abbrev pub held : {D P : Type 0} {d : device.Ghosts D} {p : policy.Ghosts P} → Pool D P d p → ℕ → Option Frame
 held pool = at pool.frames.used (frame pool.frames)
 
-module _ {D P : Type 0} (d : device.Ghosts D) (p : policy.Ghosts P) where
-  abbrev pub book : Pool D P → Book
+module _ {D P : Type 0} {d : device.Ghosts D} {p : policy.Ghosts P} where
+  abbrev pub book : Pool D P d p → Book
   book pool = record {
     size = d.size pool.device;
     bound = p.bound (p.model pool.policy);
@@ -38,11 +38,11 @@ module _ {D P : Type 0} (d : device.Ghosts D) (p : policy.Ghosts P) where
     updating = λ k. pins_at Updating (held pool k);
   }
 
-  abbrev pub sight : Pool D P → Sight
+  abbrev pub sight : Pool D P d p → Sight
   sight pool = record { book = book pool; below = d.row pool.device }
 
-  abbrev pub course : Pool D P → Course p.Model
+  abbrev pub course : Pool D P d p → Course p.Model
   course pool = record { model = p.model pool.policy; hits = pool.hits; fetches = pool.fetches }
 
-  abbrev pub scene : Pool D P → Scene p.Model
+  abbrev pub scene : Pool D P d p → Scene p.Model
   scene pool = record { sight = sight pool; course = course pool }

@@ -10,6 +10,7 @@ use Rattle.book.specs.Book.{Book, by_kind, is_not_lost, is_not_worn, is_granted,
 use Rattle.book.specs.Call.{Answer}
 use Rattle.book.specs.Call.Answer.{Granted, Refused}
 use Rattle.book.specs.declared.grant.Kind.{Kind}
+use Rattle.book.specs.declared.grant.Ticket.{Ticket}
 use Rattle.frames.specs.Calls.{Absent}
 use Rattle.frames.specs.Table.{Frame, frame, page_in, idle, marked, pins, pins_of, with, with_slot}
 use Rattle.frames.specs.declared.place.Place.{Place}
@@ -17,7 +18,6 @@ use Rattle.turns.specs.Turns.{Turn, free}
 use Rattle.pool.specs.declared.pool.Pool.{Pool}
 use Rattle.pool.specs.declared.vacancy.Vacancy.{Vacancy}
 use Rattle.pool.specs.Meaning.{book, course}
-use Rattle.pool.specs.Sound.{Sound}
 
 abbrev pub verdict : Option Refusal → Result (Unit {0}) Refusal
 verdict None = Ok tt
@@ -46,21 +46,32 @@ abbrev pub Vacated : ℕ → (ℕ → Frame) → (bound i : ℕ) → Option ℕ 
 Vacated n F bound i None = (i ≡ n) × (n < bound)
 Vacated n F bound i (Some q) = (i < n) × (page_in (F i) ≡ q) × (pins (F i).slot ≡ 0)
 
-pub record Vacant {D P : Type 0} (p : policy.Ghosts P) (pool : Pool D P) (t : ℕ) (v : Vacancy) : Type 0 where
+-- The place of a vacancy is one.
+abbrev pub Placed : {D P : Type 0} {d : device.Ghosts D} {p : policy.Ghosts P} → Pool D P d p → Vacancy → Type 0
+Placed {p = p} pool v = Vacated pool.frames.used (frame pool.frames) (p.bound (p.model pool.policy)) v.place.index v.leaving
+
+pub record Vacant {D P : Type 0} {d : device.Ghosts D} {p : policy.Ghosts P} (pool : Pool D P d p) (t : ℕ) (v : Vacancy) : Type 0 where
   pub leaving : v.leaving ≡ leaving_of p (p.model pool.policy) (idle pool.frames.used (frame pool.frames)) t
-  pub place : Vacated pool.frames.used (frame pool.frames) (p.bound (p.model pool.policy)) v.place.index v.leaving
+  pub place : Placed pool v
 
 -- None where every frame has a page with a grant out.
-abbrev pub Room : {D P : Type 0} (p : policy.Ghosts P) → Pool D P → ℕ → Option Vacancy → Type 0
-Room p pool t None = (p.size (p.model pool.policy) ≡ p.bound (p.model pool.policy)) × ((i : ℕ) → i < pool.frames.used → 0 < pins (frame pool.frames i).slot)
-Room p pool t (Some v) = Vacant p pool t v
+abbrev pub Room : {D P : Type 0} {d : device.Ghosts D} {p : policy.Ghosts P} → Pool D P d p → ℕ → Option Vacancy → Type 0
+Room {p = p} pool t None = (p.size (p.model pool.policy) ≡ p.bound (p.model pool.policy)) × ((i : ℕ) → i < pool.frames.used → 0 < pins (frame pool.frames i).slot)
+Room pool t (Some v) = Vacant pool t v
+
+-- A page that is in a frame may have one grant more.
+pub record Takable {D P : Type 0} {d : device.Ghosts D} {p : policy.Ghosts P} (pool : Pool D P d p) (kind : Kind) (page t : ℕ) (place : Place) : Type 0 where
+  pub early : first_no (early (book pool) kind page) ≡ None
+  pub low : place.index < pool.frames.used
+  pub here : page_in (frame pool.frames place.index) ≡ page
+  pub few : pins (frame pool.frames place.index).slot < 255
+  pub time : t ≡ pool.clock + 1
 
 -- A page that is in no frame may come into one.
-pub record Fetchable {D P : Type 0} (d : device.Ghosts D) (p : policy.Ghosts P) (pool : Pool D P) (kind : Kind) (page t : ℕ) (v : Vacancy) : Type 0 where
-  pub sound : Sound d p pool
-  pub early : first_no (early (book d p pool) kind page) ≡ None
+pub record Fetchable {D P : Type 0} {d : device.Ghosts D} {p : policy.Ghosts P} (pool : Pool D P d p) (kind : Kind) (page t : ℕ) (v : Vacancy) : Type 0 where
+  pub early : first_no (early (book pool) kind page) ≡ None
   pub absent : Absent pool.frames.used (frame pool.frames) page
-  pub vacant : Vacant p pool t v
+  pub vacant : Vacant pool t v
   pub time : t ≡ pool.clock + 1
 
 -- A frame as if it were not changed.
@@ -68,7 +79,7 @@ abbrev pub cleaned : Frame → Frame
 cleaned f = with_slot f (marked false f.slot)
 
 -- The frame of a page that leaves is not changed.
-abbrev pub Clean : {D P : Type 0} → Pool D P → Vacancy → Type 0
+abbrev pub Clean : {D P : Type 0} {d : device.Ghosts D} {p : policy.Ghosts P} → Pool D P d p → Vacancy → Type 0
 Clean pool v = IfSome v.leaving (λ q. (frame pool.frames v.place.index).slot.changed ≡ false)
 
 -- The page that left.
@@ -78,9 +89,8 @@ Left (Fetch out) q = out ≡ Some q
 
 -- What the frame at a place being written back did: the pool is the same but for the device's page and
 -- the frame, which is not changed any more.
-pub record DidBack {D P : Type 0} (d : device.Ghosts D) (p : policy.Ghosts P) (pool : Pool D P) (i : ℕ) (pool' : Pool D P) : Type 0 where
-  pub sound : Sound d p pool'
-  pub next : book d p pool' ≡ book d p pool
+pub record DidBack {D P : Type 0} {d : device.Ghosts D} {p : policy.Ghosts P} (pool : Pool D P d p) (i : ℕ) (pool' : Pool D P d p) : Type 0 where
+  pub next : book pool' ≡ book pool
   pub policy : pool'.policy ≡ pool.policy
   pub hits : pool'.hits ≡ pool.hits
   pub fetches : pool'.fetches ≡ pool.fetches
@@ -90,38 +100,36 @@ pub record DidBack {D P : Type 0} (d : device.Ghosts D) (p : policy.Ghosts P) (p
 
 -- What making room did: the frame of the leaving page, if any, is not changed, and the pool is else the
 -- same but for the device's page.
-pub record DidEvict {D P : Type 0} (d : device.Ghosts D) (p : policy.Ghosts P) (pool : Pool D P) (v : Vacancy) (pool' : Pool D P) : Type 0 where
-  pub sound : Sound d p pool'
-  pub next : book d p pool' ≡ book d p pool
+pub record DidEvict {D P : Type 0} {d : device.Ghosts D} {p : policy.Ghosts P} (pool : Pool D P d p) (v : Vacancy) (pool' : Pool D P d p) : Type 0 where
+  pub next : book pool' ≡ book pool
   pub policy : pool'.policy ≡ pool.policy
   pub hits : pool'.hits ≡ pool.hits
   pub fetches : pool'.fetches ≡ pool.fetches
   pub used : pool'.frames.used ≡ pool.frames.used
   pub frames : (j : ℕ) → cleaned (frame pool'.frames j) ≡ cleaned (frame pool.frames j)
   pub clean : Clean pool' v
-  pub below : (q : ℕ) → (d.row pool'.device q ≡ d.row pool.device q) ⊎ ((v.leaving ≡ Some q) × (d.row pool'.device q ≡ (book d p pool).pages q))
+  pub below : (q : ℕ) → (d.row pool'.device q ≡ d.row pool.device q) ⊎ ((v.leaving ≡ Some q) × (d.row pool'.device q ≡ (book pool).pages q))
 
 -- What an accepted fix did: a grant and a time more, each page below is as it was or, where it left,
 -- as the book has it, and the policy took its turn.
-pub record DidTake {D P : Type 0} (d : device.Ghosts D) (p : policy.Ghosts P) (pool : Pool D P) (kind : Kind) (page t : ℕ) (pool' : Pool D P) : Type 0 where
-  pub sound : Sound d p pool'
-  pub next : book d p pool' ≡ with_grants (book d p pool) t kind page (granted (book d p pool) kind page + 1)
+pub record DidTake {D P : Type 0} {d : device.Ghosts D} {p : policy.Ghosts P} (pool : Pool D P d p) (kind : Kind) (page t : ℕ) (pool' : Pool D P d p) : Type 0 where
+  pub next : book pool' ≡ with_grants (book pool) t kind page (granted (book pool) kind page + 1)
   pub outcome : Outcome
-  pub turn : Turn p (free (book d p pool)) (course d p pool) page t outcome (course d p pool')
+  pub turn : Turn p (free (book pool)) (course pool) page t outcome (course pool')
   pub left : (q : ℕ) → Left outcome q → (p.resident (p.model pool.policy) q ≡ true) × (q ≢ page)
-  pub below : (q : ℕ) → (d.row pool'.device q ≡ d.row pool.device q) ⊎ (Left outcome q × (d.row pool'.device q ≡ (book d p pool).pages q))
+  pub below : (q : ℕ) → (d.row pool'.device q ≡ d.row pool.device q) ⊎ (Left outcome q × (d.row pool'.device q ≡ (book pool).pages q))
 
 -- What admitting a page did: it was fetched, in the place of the one that left, and nothing was
 -- written below.
-pub record DidAdmit {D P : Type 0} (d : device.Ghosts D) (p : policy.Ghosts P) (pool : Pool D P) (kind : Kind) (page t : ℕ) (v : Vacancy) (pool' : Pool D P) : Type 0 where
-  pub took : DidTake d p pool kind page t pool'
+pub record DidAdmit {D P : Type 0} {d : device.Ghosts D} {p : policy.Ghosts P} (pool : Pool D P d p) (kind : Kind) (page t : ℕ) (v : Vacancy) (pool' : Pool D P d p) : Type 0 where
+  pub took : DidTake pool kind page t pool'
   pub fetched : took.outcome ≡ Fetch v.leaving
   pub row : (q : ℕ) → d.row pool'.device q ≡ d.row pool.device q
 
--- The place of a page for which a grant of a kind is out.
-abbrev pub Out : {D P : Type 0} → device.Ghosts D → policy.Ghosts P → Pool D P → Kind → (mark page : ℕ) → Result Place Refusal → Type 0
-Out d p pool kind mark page (Ok i) = (is_granted (book d p pool) kind mark page ≡ None) × (i.index < pool.frames.used) × (page_in (frame pool.frames i.index) ≡ page) × (0 < pins_of kind (frame pool.frames i.index).slot)
-Out d p pool kind mark page (Err e) = is_granted (book d p pool) kind mark page ≡ Some e
+-- The place of a grant's page, if the grant is out.
+abbrev pub Out : {D P : Type 0} {d : device.Ghosts D} {p : policy.Ghosts P} → Pool D P d p → Ticket → Result Place Refusal → Type 0
+Out pool t (Ok i) = (is_granted (book pool) t.kind t.mark t.page ≡ None) × (i.index < pool.frames.used) × (page_in (frame pool.frames i.index) ≡ t.page) × (0 < pins_of t.kind (frame pool.frames i.index).slot)
+Out pool t (Err e) = is_granted (book pool) t.kind t.mark t.page ≡ Some e
 
 -- The answer of a fix, as the book gives it.
 abbrev pub fixed_answer : Result (Unit {0}) Refusal → Kind → (mark page : ℕ) → Answer
@@ -129,9 +137,8 @@ fixed_answer (Ok x) kind mark page = Granted (record { kind = kind; mark = mark;
 fixed_answer (Err e) kind mark page = Refused e
 
 -- The first k frames have been written back, since a pool was as it was at first.
-pub record DidSettle {D P : Type 0} (d : device.Ghosts D) (p : policy.Ghosts P) (first : Pool D P) (k : ℕ) (pool : Pool D P) : Type 0 where
-  pub sound : Sound d p pool
-  pub next : book d p pool ≡ book d p first
+pub record DidSettle {D P : Type 0} {d : device.Ghosts D} {p : policy.Ghosts P} (first : Pool D P d p) (k : ℕ) (pool : Pool D P d p) : Type 0 where
+  pub next : book pool ≡ book first
   pub policy : pool.policy ≡ first.policy
   pub hits : pool.hits ≡ first.hits
   pub fetches : pool.fetches ≡ first.fetches

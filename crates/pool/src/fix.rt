@@ -1,14 +1,13 @@
 ghost use Rattle.std.specs.Prelude.{◌≡◌};
 ghost use Rattle.book.specs.Book.{first_no};
 ghost use Rattle.book.specs.Call.Call.{Fix};
-ghost use Rattle.book.specs.declared.grant.Kind.TheVariants.{Reading, Updating};
-ghost use Rattle.pool.specs.Did.{Did, Gives, granted, read_grant, to_read, to_update, update_grant};
+ghost use Rattle.pool.specs.Did.{Did, Gives, given, granted, ticket};
 ghost use Rattle.pool.specs.Meaning.{book as book_of};
-ghost use Rattle.pool.specs.Sound.{Sound};
 ghost use Rattle.pool.specs.Steps.{Timely, early, fixed_answer, verdict};
 
-use crate::grant::{ReadGrant, UpdateGrant};
+use crate::grant::Grant;
 use crate::pool::Pool;
+use crate::purpose::Purpose;
 use book::Kind;
 use device::Device;
 use page::{Refusal, State};
@@ -18,7 +17,7 @@ impl<D: Device, P: Policy> Pool<D, P> {
     // The questions of a fix up to the clock.
     fn ask(&self, kind: Kind, page: u32) -> Result<(), Refusal>
         ensures time { Timely result self.now.clock }
-        ensures answer { Sound D.Device P.Policy self.now → result ≡ verdict (first_no (early (book_of D.Device P.Policy self.now) kind page)) }
+        ensures answer { result ≡ verdict (first_no (early (book_of self.now) kind page)) }
     {
         match (self.device.state(page)?, kind) {
             (State::Lost(origin), _) => return Err(Refusal::LostPage(origin)),
@@ -32,8 +31,8 @@ impl<D: Device, P: Policy> Pool<D, P> {
     }
 
     // A fix of either kind.
-    fn fix(&mut self, kind: Kind, page: u32) -> Result<(), Refusal>
-        ensures { Sound D.Device P.Policy self.old → Did D.Device P.Policy self.old (Fix kind page) (fixed_answer result kind self.old.mark page) self.new }
+    fn fix_kind(&mut self, kind: Kind, page: u32) -> Result<(), Refusal>
+        ensures { Did self.old (Fix kind page) (fixed_answer result kind self.old.mark page) self.new }
     {
         self.ask(kind, page)?;
         let t = self.clock + 1;
@@ -51,31 +50,13 @@ impl<D: Device, P: Policy> Pool<D, P> {
         Ok(())
     }
 
-    // Fixes a page for reading.
-    pub fn fix_read(&mut self, page: u32) -> Result<ReadGrant, Refusal>
-        ensures grant { Gives result (read_grant self.old.mark page) }
-        ensures did { Sound D.Device P.Policy self.old → Did D.Device P.Policy self.old (Fix Reading page) (granted to_read result) self.new }
+    // Fixes a page, for what the grant is to be for.
+    pub fn fix<K: Purpose>(&mut self, page: u32) -> Result<Grant<K>, Refusal>
+        ensures grant { Gives result (given self.old.mark page) }
+        ensures did { Did self.old (Fix K.KIND page) (granted (ticket K.Purpose) result) self.new }
     {
         let mark = self.mark;
-        self.fix(Kind::Reading, page)?;
-        Ok(ReadGrant {
-            mark,
-            page,
-            spent: false,
-        })
-    }
-
-    // Fixes a page for update.
-    pub fn fix_update(&mut self, page: u32) -> Result<UpdateGrant, Refusal>
-        ensures grant { Gives result (update_grant self.old.mark page) }
-        ensures did { Sound D.Device P.Policy self.old → Did D.Device P.Policy self.old (Fix Updating page) (granted to_update result) self.new }
-    {
-        let mark = self.mark;
-        self.fix(Kind::Updating, page)?;
-        Ok(UpdateGrant {
-            mark,
-            page,
-            spent: false,
-        })
+        self.fix_kind(K::KIND, page)?;
+        Ok(Grant::new(mark, page))
     }
 }

@@ -2,7 +2,6 @@ ghost use Rattle.std.specs.Prelude.{◌+◌};
 ghost use Rattle.book.specs.Call.Call.{Flush, FlushAll};
 ghost use Rattle.book.specs.Call.Answer.{Done};
 ghost use Rattle.pool.specs.Did.{Did, DidClose, DidRenew, done};
-ghost use Rattle.pool.specs.Sound.{Sound};
 ghost use Rattle.pool.specs.Steps.{DidSettle};
 
 use crate::pool::Pool;
@@ -13,7 +12,7 @@ use policy::Policy;
 impl<D: Device, P: Policy> Pool<D, P> {
     // Writes a page back, if it is in a frame and was changed.
     pub fn flush(&mut self, page: u32) -> Result<(), Refusal>
-        ensures { Sound D.Device P.Policy self.old → Did D.Device P.Policy self.old (Flush page) (done result) self.new }
+        ensures { Did self.old (Flush page) (done result) self.new }
     {
         if page >= self.device.count() {
             return Err(Refusal::NoSuchPage);
@@ -27,7 +26,7 @@ impl<D: Device, P: Policy> Pool<D, P> {
 
     // Writes the page with a number among the frames back, if there is one and it was changed.
     fn settle(&mut self, index: usize)
-        ensures { (first : Pool D P) → DidSettle D.Device P.Policy first index self.old → DidSettle D.Device P.Policy first (index + 1) self.new }
+        ensures { (first : Pool D P D.Device P.Policy) → DidSettle first index self.old → DidSettle first (index + 1) self.new }
     {
         let Some(place) = self.frames.nth(index) else {
             return;
@@ -37,7 +36,7 @@ impl<D: Device, P: Policy> Pool<D, P> {
 
     // Writes every page back that is in a frame and was changed.
     pub fn flush_all(&mut self)
-        ensures { Sound D.Device P.Policy self.old → Did D.Device P.Policy self.old FlushAll Done self.new }
+        ensures { Did self.old FlushAll Done self.new }
     {
         for i in 0..64 {
             self.settle(i);
@@ -48,7 +47,7 @@ impl<D: Device, P: Policy> Pool<D, P> {
     pub fn close(self) -> D
     where
         P: Drop,
-        ensures { Sound D.Device P.Policy self → DidClose D.Device P.Policy self result }
+        ensures { DidClose self result }
     {
         let mut pool = self;
         pool.flush_all();
@@ -67,7 +66,7 @@ impl<D: Device, P: Policy> Pool<D, P> {
     // Writes all back and begins anew: the policy is restarted, all frames are free, and the clock and
     // the counts are 0, as after a close and an opening over the same device.
     pub fn renew(&mut self)
-        ensures { Sound D.Device P.Policy self.old → DidRenew D.Device P.Policy self.old self.new }
+        ensures { DidRenew self.old self.new }
     {
         self.flush_all();
         self.policy.restart();

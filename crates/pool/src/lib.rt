@@ -8,8 +8,10 @@ mod flush;
 mod grant;
 mod open;
 mod pool;
+mod purpose;
 mod vacancy;
 mod work;
 
-pub use grant::{ReadGrant, UpdateGrant};
+pub use grant::{Grant, ReadGrant, UpdateGrant};
 pub use pool::Pool;
+pub use purpose::{Purpose, ToRead, ToUpdate};

@@ -11,8 +11,8 @@ use policy::Policy;
 impl<D: Device, P: Policy> Pool<D, P> {
     // Opens a pool over a device: the policy is restarted, all frames are free, and the clock is 0.
     pub fn open(device: D, policy: P, mark: u32) -> Pool<D, P>
-        ensures opened { DidOpen D.Device P.Policy device policy mark result }
-        ensures promised { Promised (sight D.Device P.Policy result) }
+        ensures opened { DidOpen device policy mark result }
+        ensures promised { Promised (sight result) }
     {
         let mut policy = policy;
         policy.restart();
@@ -29,8 +29,8 @@ impl<D: Device, P: Policy> Pool<D, P> {
 
     // Opens a pool whose clock shows another time than 0: one that is near its last time, say.
     pub fn open_at(device: D, policy: P, mark: u32, time: u32) -> Pool<D, P>
-        ensures opened { DidOpenAt D.Device P.Policy device policy mark time result }
-        ensures promised { Promised (sight D.Device P.Policy result) }
+        ensures opened { DidOpenAt device policy mark time result }
+        ensures promised { Promised (sight result) }
     {
         let mut pool = Pool::open(device, policy, mark);
         pool.clock = time;

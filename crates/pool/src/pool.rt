@@ -1,3 +1,7 @@
+ghost use Rattle.std.specs.Prelude.{◌+◌, ◌≤◌};
+ghost use Rattle.frames.specs.Table.{frame as frame_at};
+ghost use Rattle.pool.specs.Tied.{Tied, Tied-prop};
+
 use device::Device;
 use frames::Frames;
 use policy::Policy;
@@ -12,4 +16,6 @@ pub struct Pool<D: Device, P: Policy> {
     pub(crate) clock: u32,
     pub(crate) hits: u32,
     pub(crate) fetches: u32,
+    pub ghost tied: { Tied frames.used (frame_at frames) (D.Device.row device) (P.Policy.resident (P.Policy.model policy)) (P.Policy.size (P.Policy.model policy)) } by { Tied-prop frames.used (frame_at frames) (D.Device.row device) (P.Policy.resident (P.Policy.model policy)) (P.Policy.size (P.Policy.model policy)) },
+    pub ghost counts: { hits + fetches ≤ clock },
 }

@@ -3,12 +3,12 @@
 
 mod keyed;
 mod list;
-#[cfg(test)]
-mod owner;
 mod place;
+mod table;
 #[cfg(test)]
 mod tests;
 
 pub use keyed::Keyed;
 pub use list::Recency;
 pub use place::place_of;
+pub use table::Table;

@@ -9,10 +9,5 @@ pub fn place_of<T: Keyed>(records: &[T], page: u32) -> Option<usize>
     ensures nearest { Nearest page (map T.Keyed.key records.now) result }
     ensures within { IfSome result (λ i. i < length records.now) }
 {
-    for (i, record) in records.iter().enumerate() {
-        if record.page() == page {
-            return Some(i);
-        }
-    }
-    None
+    records.iter().position(|record| record.page() == page)
 }

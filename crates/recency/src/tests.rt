@@ -1,7 +1,23 @@
+use crate::keyed::Keyed;
 use crate::list::Recency;
-use crate::owner::{Block, Owner};
+use crate::table::Table;
 use page::Refusal;
 use std::test::Fail;
+
+// A record with a page number beside what else it has.
+#[derive(Clone, Copy)]
+struct Block {
+    page: u32,
+    last: u32,
+}
+
+impl Keyed for Block {
+    ghost key = { λ b. b.page };
+
+    fn page(&self) -> u32 {
+        self.page
+    }
+}
 
 // The number of a refusal, or 0.
 fn number<T: Drop>(answer: Result<T, Refusal>) -> u8 {
@@ -55,13 +71,33 @@ fn the_others_keep_their_order(rt: HostRuntime) {
 }
 
 #[test]
-fn an_owner_keeps_blocks(rt: HostRuntime) -> Result<(), Fail> {
-    let mut owner = Owner::new(Block { page: 8, last: 1 });
-    assert_eq!(rt; number(owner.put(Block { page: 6, last: 2 })), 0);
-    assert_eq!(rt; number(owner.raise(1)), 0);
-    assert_eq!(rt; number(owner.raise(2)), 11);
-    assert_eq!(rt; owner.take(1)?.page, 6);
-    assert_eq!(rt; number(owner.take(1)), 11);
-    assert_eq!(rt; owner.take(0)?.last, 1);
+fn an_owner_lends_its_blocks(rt: HostRuntime) -> Result<(), Fail> {
+    let mut blocks = [Block { page: 8, last: 1 }; 4];
+    let mut list = Recency::new(&mut blocks, 1);
+    assert_eq!(rt; number(list.put(Block { page: 6, last: 2 })), 0);
+    assert_eq!(rt; number(list.move_to_head(1)), 0);
+    assert_eq!(rt; number(list.move_to_head(2)), 11);
+    assert_eq!(rt; list.take(1)?.page, 6);
+    assert_eq!(rt; number(list.take(1)), 11);
+    assert_eq!(rt; list.take(0)?.last, 1);
     Ok(())
+}
+
+#[test]
+fn a_table_keeps_blocks(rt: HostRuntime) {
+    let mut table: Table<Block, 2> = Table::new(Block { page: 0, last: 0 });
+    table.push(Block { page: 8, last: 1 });
+    table.push(Block { page: 6, last: 2 });
+    table.raise(8);
+    assert_eq!(rt; table.find(8).map(|block| block.last), Some(1));
+    table.push(Block { page: 7, last: 3 });
+    assert!(rt; !table.contains(6), "the last record drops out");
+    table.replace(Block { page: 8, last: 4 });
+    assert_eq!(rt; table.remove(8).map(|block| block.last), Some(4));
+    assert_eq!(rt; table.len(), 1);
+    table.truncate(0);
+    assert!(rt; table.as_slice().is_empty());
+    table.push(Block { page: 7, last: 5 });
+    table.clear();
+    assert_eq!(rt; table.len(), 0);
 }

@@ -1,16 +1,14 @@
 // Takes stock of an office's volume: the batch book, the fee book and last year's archive.
 #![tactic(auto)]
 
-mod input;
 mod problem;
-mod table;
 
-use anyhow::anyhow;
-use input::read_books;
-use office::stock_of;
+use anyhow::bail;
+use desk::{BookProblem, Books, Table, read_books};
+use office::{StockFault, stock_of};
 use problem::Problem;
+use std::alloc::AllocError;
 use std::env;
-use table::print_table;
 
 const USAGE: &str = "usage: register BATCH-BOOK FEE-BOOK ARCHIVE DEFECTS
 Takes stock of the volume that the three books make, page by page. DEFECTS is a
@@ -19,38 +17,38 @@ blank lines and lines that begin with # are passed over. Nothing is written.";
 
 fn run(rt: &HostRuntime) -> Result<(), Problem> {
     let heap = rt.alloc();
-    let mut words = Vec::new(heap);
-    for word in env::args(rt)?.skip(1) {
-        words.push(word)?;
-    }
-    if words.len() == 1 && words[0].as_str() == "--help" {
+    let words: Vec<String> = env::args(rt)?.skip(1).collect(heap)?;
+    if let [word] = words.as_slice()
+        && word.as_str() == "--help"
+    {
         rt.println(USAGE)?;
         return Ok(());
     }
-    if words.len() != 4 {
+    let Some(names) = words.as_slice().as_array::<4>() else {
         return Err(Problem::Usage);
-    }
-    let mut books = read_books(rt, &words)?;
-    let lines = match stock_of(
-        heap,
-        &mut books.batch,
-        &mut books.fees,
-        &books.archive,
-        &books.marks,
-    ) {
-        Ok(lines) => lines,
-        Err(fault) => return Err(books.blame(fault)),
     };
-    print_table(rt, &lines)?;
+    let Books {
+        mut batch,
+        mut fees,
+        archive,
+        defects,
+    } = read_books(rt, names)?;
+    let marks = defects.marks(heap)?;
+    let lines = stock_of(heap, &mut batch, &mut fees, &archive, &marks).map_err(
+        |fault| match fault {
+            StockFault::Mark(refused) => defects.blame(refused),
+            StockFault::Memory => BookProblem::Memory(AllocError),
+        },
+    )?;
+    let table = Table { lines: &lines };
+    print!(rt; "{table}")?;
     Ok(())
 }
 
 fn main(rt: HostRuntime) -> anyhow::Result<()> {
-    match run(&rt) {
-        Ok(()) => Ok(()),
-        Err(problem) => {
-            eprintln!(rt; "register: {problem}")?;
-            Err(anyhow!("no stock was taken"))
-        }
+    if let Err(problem) = run(&rt) {
+        eprintln!(rt; "register: {problem}")?;
+        bail!("no stock was taken");
     }
+    Ok(())
 }

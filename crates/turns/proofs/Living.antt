@@ -12,6 +12,7 @@ use Rattle.book.specs.Call.Call.{Fix, Read, Write, Unfix, Flush, FlushAll, Close
 use Rattle.book.specs.Counts.{is_fix, one, count}
 use Rattle.book.specs.Life.{Life}
 use Rattle.book.specs.Life.Life.{start as born, step as next-step}
+use Rattle.policy.proofs.Tallies.{all-counted}
 use Rattle.turns.specs.Turns.{Course, named, unless, after, Fixed, Turned}
 use Rattle.turns.specs.Lived.{Scene, Lived, LivedLaws}
 use Rattle.turns.specs.Lived.Lived.{start, doing}
@@ -23,11 +24,6 @@ hits_append (o ∷ xs) ys = let ih = hits_append xs ys in omega arith
 fetches_append : (xs ys : List Outcome) → fetches (xs ++ ys) ≡ fetches xs + fetches ys
 fetches_append [] ys = omega arith
 fetches_append (o ∷ xs) ys = let ih = fetches_append xs ys in omega arith
-
-either_way : (os : List Outcome) → hits os + fetches os ≡ length os
-either_way [] = refl
-either_way (Hit ∷ os) = let ih = either_way os in omega arith
-either_way (Fetch out ∷ os) = let ih = either_way os in omega arith
 
 module _ {P : Type 0} (g : policy.Ghosts P) where
   after-hits : (x : Course g.Model) (page t : ℕ) (o : Outcome) → (after g x page t o).hits ≡ x.hits + hits (o ∷ [])
@@ -119,5 +115,5 @@ module _ {P : Type 0} (g : policy.Ghosts P) where
     outcomes = λ c d calls rs os l. (let h = outcomes l in omega arith);
     hits = λ c d calls rs os l. hits_in l;
     fetches = λ c d calls rs os l. fetches_in l;
-    sum = λ c d calls rs os l. (let h = outcomes l in let a = hits_in l in let b = fetches_in l in omega (arith, either_way os));
+    sum = λ c d calls rs os l. (let h = outcomes l in let a = hits_in l in let b = fetches_in l in omega (arith, all-counted os));
   }

@@ -1,6 +1,5 @@
 use Rattle.std.proofs.Common.{◌≡◌, ℕ, ◌+◌, ◌-◌, ◌<◌, length, get_or, take, sym, ap, ◌∙◌, arith}
 use Rattle.std.proofs.lemmas.List.{length-take, length-take-le, take_more_set, drop-set-lt, get_or-take}
-use Rattle.policy.specs.Held.{pages_of}
 use Rattle.policy.specs.Runs.{hits}
 use Rattle.policy.proofs.Courses.{run_on, drop-one-more, did-run}
 use Rattle.policy.proofs.run.run_string.Goals as goal
@@ -13,7 +12,7 @@ loop-i-preserved g c =
     let os = c.loop-i.outcomes in
     let n = c.min-most.result in
     let m = p.model c.loop-i.policy in
-    let h = pages_of c.loop-i.held in
+    let h = c.loop-i.held.items in
     let within : i < length os = omega arith in
     let inside : i < length (take n s) = omega (arith, length-take n s) in
     let page : get_or s i 0 ≡ get_or (take n s) i 0 = sym (get_or-take n s i 0 c.loop-i-test.true) in

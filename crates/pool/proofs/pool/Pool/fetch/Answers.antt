@@ -1,12 +1,8 @@
 use Rattle.pool.proofs.Evicting.{fetched, still_fetchable}
 use Rattle.pool.proofs.pool.Pool.fetch.Goals as goal
 
+pub admit-requires-clause-page : goal.admit-requires-clause-page
+admit-requires-clause-page g c = still_fetchable c.args.self.now c.evict.new.self c.args.kind c.args.page c.args.t c.args.vacancy c.evict.ensures c.requires
+
 pub returns : goal.returns
-returns g c f =
-    let d = g.D.Device in
-    let p = g.P.Policy in
-    let pool = c.args.self.now in
-    let mid = c.evict.new.self in
-    let e = c.evict.ensures c.args.t f.sound f.vacant in
-    fetched d p pool mid c.admit.new.self c.args.kind c.args.page c.args.t c.args.vacancy e
-    (c.admit.ensures (still_fetchable d p pool mid c.args.kind c.args.page c.args.t c.args.vacancy e f) e.clean)
+returns g c = fetched c.args.self.now c.evict.new.self c.admit.new.self c.args.kind c.args.page c.args.t c.args.vacancy c.evict.ensures c.admit.ensures

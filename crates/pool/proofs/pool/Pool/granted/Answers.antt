@@ -1,49 +1,50 @@
 use Rattle.std.proofs.Common.{◌≡◌, ℕ, ◌<◌, sym, ap, ◌∙◌, arith}
 use Rattle.book.specs.Book.{granted}
 use Rattle.frames.specs.Table.{frame, at, pins_of}
+use Rattle.pool.specs.Did.{ticket}
 use Rattle.pool.specs.Meaning.{book, pins_at}
 use Rattle.pool.proofs.Granting.{grant-yes, grant_no}
 use Rattle.pool.proofs.Places.{at_here, at_out}
 use Rattle.pool.proofs.Taking.{granted_at}
 use Rattle.pool.proofs.pool.Pool.granted.Goals as goal
-use Rattle.pool.proofs.pool.Pool.granted.Goals.{then-ticket-self-via-then-ticket-self, then-ticket-self-via-else-ticket-self+then-pins_of-eq0}
+use Rattle.pool.proofs.pool.Pool.granted.Goals.{then-grant-self-via-then-grant-self, then-grant-self-via-else-grant-self+then-pins_of-eq0}
 
 pub returns-in_default : goal.returns-in_default
-returns-in_default g c s =
+returns-in_default g c =
     let pool = c.args.self.now in
-    let b = book g.D.Device g.P.Policy pool in
-    let t = c.args.ticket in
+    let b = book pool in
+    let t = ticket g.K.Purpose c.args.grant.now in
     let o = at pool.frames.used (frame pool.frames) in
     grant_no b t.kind t.mark t.page (λ e. granted_at t.kind o t.page ∙ ap (pins_at t.kind) (at_out pool.frames.used (frame pool.frames) t.page c.in_default.ensures))
 
-pub returns-then-ticket-self : goal.returns-then-ticket-self
-returns-then-ticket-self g c s =
+pub returns-then-grant-self : goal.returns-then-grant-self
+returns-then-grant-self g c =
     let pool = c.args.self.now in
-    let b = book g.D.Device g.P.Policy pool in
-    let t = c.args.ticket in
+    let b = book pool in
+    let t = ticket g.K.Purpose c.args.grant.now in
     let n = pool.frames.used in
     let F = frame pool.frames in
     let found = c.in-Some.ensures in
     grant_no b t.kind t.mark t.page (λ e.
-    elim c.then-ticket-self.branch [
-      | then-ticket-self-via-then-ticket-self w ↦ absurd (w.if-ticket-self.true e)
-      | then-ticket-self-via-else-ticket-self+then-pins_of-eq0 w ↦
-          granted_at t.kind (at n F) t.page ∙ ap (pins_at t.kind) (at_here n F c.in-Some.place.index t.page s.tied.once found.0 found.1)
-          ∙ ap (pins_of t.kind) (sym w.slot.ensures) ∙ sym w.pins_of.ensures ∙ w.if-pins_of-eq0.true
+    elim c.then-grant-self.branch [
+      | then-grant-self-via-then-grant-self w ↦ absurd (w.if-grant-self.true e)
+      | then-grant-self-via-else-grant-self+then-pins_of-eq0 w ↦
+          granted_at t.kind (at n F) t.page ∙ ap (pins_at t.kind) (at_here n F c.in-Some.place.index t.page pool.tied.once found.0 found.1)
+          ∙ ap (pins_of t.kind) (sym w.slot.ensures) ∙ ap (λ k. pins_of k w.slot.result) (sym w.KIND.ensures) ∙ sym w.pins_of.ensures ∙ w.if-pins_of-eq0.true
     ])
 
 pub returns : goal.returns
-returns g c s =
+returns g c =
     let pool = c.args.self.now in
-    let b = book g.D.Device g.P.Policy pool in
-    let t = c.args.ticket in
+    let b = book pool in
+    let t = ticket g.K.Purpose c.args.grant.now in
     let n = pool.frames.used in
     let F = frame pool.frames in
     let i = c.in-Some.place.index in
     let found = c.in-Some.ensures in
-    let out : granted b t.kind t.page ≡ pins_of t.kind (F i).slot = granted_at t.kind (at n F) t.page ∙ ap (pins_at t.kind) (at_here n F i t.page s.tied.once found.0 found.1) in
-    let few : 0 < pins_of t.kind (F i).slot = above _ _ (c.pins_of.ensures ∙ ap (pins_of t.kind) c.slot.ensures) c.if-pins_of-eq0.false in
-    (grant-yes b t.kind t.mark t.page c.if-ticket-self.false (more _ _ out few), found.0, found.1, few)
+    let out : granted b t.kind t.page ≡ pins_of t.kind (F i).slot = granted_at t.kind (at n F) t.page ∙ ap (pins_at t.kind) (at_here n F i t.page pool.tied.once found.0 found.1) in
+    let few : 0 < pins_of t.kind (F i).slot = above _ _ (c.pins_of.ensures ∙ ap (λ k. pins_of k c.slot.result) c.KIND.ensures ∙ ap (pins_of t.kind) c.slot.ensures) c.if-pins_of-eq0.false in
+    (grant-yes b t.kind t.mark t.page c.if-grant-self.false (more _ _ out few), found.0, found.1, few)
   where
     above : (m n : ℕ) → m ≡ n → (m ≡ 0 → ⊥) → 0 < n
     above m n e h = omega arith

@@ -1,9 +1,9 @@
-use Rattle.std.proofs.Common.{◌≡◌, ℕ, Option, sym, refl, ap, arith}
+use Rattle.std.proofs.Common.{◌≡◌, ℕ, Option, sym, refl, ap}
 use Rattle.book.specs.declared.grant.Kind.TheVariants.{Reading, Updating}
 use Rattle.frames.specs.Table.{Frame, frame, at}
 use Rattle.pool.specs.Meaning.{shown, pins_at}
 use Rattle.pool.proofs.Books.{same-book, at_free}
-use Rattle.pool.proofs.Opened.{tied-free, promised}
+use Rattle.pool.proofs.Opened.{promised}
 use Rattle.pool.proofs.pool.Pool.open.Goals as goal
 
 pub returns : goal.returns
@@ -14,11 +14,6 @@ returns g c =
     let free : (k : ℕ) → at n F k ≡ _ = λ k. at_free n F k c.new.ensures in
     record {
       opened = record {
-        sound = λ v. record {
-          below = v;
-          tied = tied-free n F row _ _ c.new.ensures c.restart.ensures.resident c.restart.ensures.size;
-          counts = omega arith;
-        };
         device = refl;
         book = same-book _ _ refl c.restart.ensures.bound refl refl
             (λ k. ap (λ (o : Option Frame). shown o (row k)) (free k))

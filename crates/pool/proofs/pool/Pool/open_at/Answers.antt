@@ -1,4 +1,4 @@
-use Rattle.std.proofs.Common.{◌≡◌, sym, ap, ◌∙◌, arith}
+use Rattle.std.proofs.Common.{◌≡◌, sym, ap, ◌∙◌}
 use Rattle.book.specs.Book.{Book}
 use Rattle.turns.specs.Turns.{Course}
 use Rattle.pool.specs.Did.{at_time}
@@ -16,7 +16,6 @@ returns g c =
     let no-fetch : pool.fetches ≡ 0 = ap (λ (x : Course p.Model). x.fetches) o.course in
     record {
       opened = record {
-        sound = λ v. (let s = o.sound v in record { below = s.below; tied = s.tied; counts = omega (arith, none, no-fetch) });
         device = o.device;
         book = ap (λ (b : Book). at_time b t) o.book;
         course = o.course;

@@ -11,49 +11,49 @@ passed : (n : ℕ) (xs ls : List ℕ) → take n xs ≡ ls → take (n - 0) xs �
 passed n xs ls e = ap (λ (k : ℕ). take k xs) (sub-zero n) ∙ e
 
 pub returns-in-Some : goal.returns-in-Some
-returns-in-Some g c s =
+returns-in-Some g c =
     let pool = c.args.self.now in
     let p = g.P.Policy in
     let m = p.model pool.policy in
     let spare = c.in-Some.ensures in
-    let room : p.size m < p.bound m = omega (arith, s.tied.filled, c.frames.ensures, spare.1) in
+    let room : p.size m < p.bound m = omega (arith, pool.tied.filled, c.frames.ensures, spare.1) in
     record {
       leaving = sym (cond-true (ltb (p.size m) (p.bound m)) None (p.chosen m _ c.args.t) (lt-ltb (p.size m) (p.bound m) room));
       place = (spare.0, omega (arith, c.frames.ensures, spare.1));
     }
 
 pub returns-in_default-choose : goal.returns-in_default-choose
-returns-in_default-choose g c s =
+returns-in_default-choose g c =
     let pool = c.args.self.now in
     let p = g.P.Policy in
     let fs = pool.frames in
     let same = passed c.idle-n.result c.idle-n.new.list (idle fs.used (frame fs)) c.idle-n.ensures.pages in
     let kept = p.kept pool.policy in (
-      omega (arith, s.tied.filled, c.frames.ensures, c.in_default.ensures, kept.within),
-      all-pinned fs.used (frame fs) _ _ _ s.tied _ same c.in_default-choose.ensures.right,
+      omega (arith, pool.tied.filled, c.frames.ensures, c.in_default.ensures, kept.within),
+      all-pinned fs.used (frame fs) _ _ _ pool.tied _ same c.in_default-choose.ensures.right,
     )
 
 pub returns-in_default-find : goal.returns-in_default-find
-returns-in_default-find g c s =
+returns-in_default-find g c =
     let pool = c.args.self.now in
     let fs = pool.frames in
     let same = passed c.idle-n.result c.idle-n.new.list (idle fs.used (frame fs)) c.idle-n.ensures.pages in
-    let w = chosen-idle fs.used (frame fs) _ _ _ s.tied _ c.in-Some-choose.page same c.in-Some-choose.ensures.right.0 in
+    let w = chosen-idle fs.used (frame fs) _ _ _ pool.tied _ c.in-Some-choose.page same c.in-Some-choose.ensures.right.0 in
     let seat = at_where fs.used (frame fs) c.in-Some-choose.page w.0 w.1 in
     absurd (c.in_default-find.ensures seat.place seat.low (ap page_in seat.is ∙ seat.page))
 
 pub returns : goal.returns
-returns g c s =
+returns g c =
     let pool = c.args.self.now in
     let p = g.P.Policy in
     let m = p.model pool.policy in
     let fs = pool.frames in
     let ls = idle fs.used (frame fs) in
     let same = passed c.idle-n.result c.idle-n.new.list ls c.idle-n.ensures.pages in
-    let full : p.bound m ≤ p.size m = omega (arith, s.tied.filled, c.frames.ensures, c.in_default.ensures) in
+    let full : p.bound m ≤ p.size m = omega (arith, pool.tied.filled, c.frames.ensures, c.in_default.ensures) in
     record {
       leaving = c.in-Some-choose.ensures.step
           ∙ ap (λ (l : List ℕ). p.chosen m l c.args.t) same
           ∙ sym (cond-false (ltb (p.size m) (p.bound m)) None (p.chosen m ls c.args.t) (le-ltb (p.size m) (p.bound m) full));
-      place = chosen-place fs.used (frame fs) _ _ _ s.tied _ c.in-Some-choose.page same c.in-Some-choose.ensures.right.0 c.in-Some-find.place (p.bound m) c.in-Some-find.ensures;
+      place = chosen-place fs.used (frame fs) _ _ _ pool.tied _ c.in-Some-choose.page same c.in-Some-choose.ensures.right.0 c.in-Some-find.place (p.bound m) c.in-Some-find.ensures;
     }

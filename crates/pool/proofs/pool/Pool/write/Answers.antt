@@ -3,20 +3,27 @@ use Rattle.page.specs.declared.refusal.Refusal.{Refusal}
 use Rattle.book.specs.Call.Call.{Write}
 use Rattle.pool.specs.Did.{Did, done}
 use Rattle.pool.proofs.Doings.{exit_err}
-use Rattle.pool.proofs.Working.{write-refused, did_write}
+use Rattle.pool.proofs.Working.{write-refused, did_write, written_kept}
 use Rattle.pool.proofs.pool.Pool.write.Goals as goal
 
 pub returns-in_err-place : goal.returns-in_err-place
-returns-in_err-place g c s =
+returns-in_err-place g c =
     let d = g.D.Device in
     let p = g.P.Policy in
     let pool = c.args.self.now in
     let t = c.args.grant.now in
-    let A : Result (Unit {0}) Refusal → Type 0 = λ r. Did d p pool (Write t.mark t.page c.args.offset c.args.bytes.now) (done r) pool in
-    subst A (sym (exit_err c.from_residual.result _ c.from_residual.ensures.1)) (write-refused d p pool t.mark t.page c.args.offset c.args.bytes.now _ s (c.in_err-place.ensures s))
+    let A : Result (Unit {0}) Refusal → Type 0 = λ r. Did pool (Write t.mark t.page c.args.offset c.args.bytes.now) (done r) pool in
+    subst A (sym (exit_err c.from_residual.result _ c.from_residual.ensures.1)) (write-refused pool t.mark t.page c.args.offset c.args.bytes.now _ c.in_err-place.ensures)
+
+pub invariant_of-self : goal.invariant_of-self
+invariant_of-self g c =
+    let pool = c.args.self.now in
+    let out = c.in_ok-place.ensures in
+    let k = written_kept pool c.args.offset c.args.bytes.now c.in_ok-place.place.index c.write.new.self out.1 out.3 c.write.ensures.used c.write.ensures.frames in
+    record { tied = k.0; counts = k.1 }
 
 pub returns : goal.returns
-returns g c s =
-    let out = c.in_ok-place.ensures s in
+returns g c =
+    let out = c.in_ok-place.ensures in
     let t = c.args.grant.now in
-    did_write g.D.Device g.P.Policy c.args.self.now t.mark t.page c.args.offset c.args.bytes.now _ c.in_ok-place.place.index c.write.new.self s out.0 out.1 out.2 out.3 c.write.ensures.answer c.write.ensures.refused c.write.ensures.used c.write.ensures.frames
+    did_write c.args.self.now t.mark t.page c.args.offset c.args.bytes.now _ c.in_ok-place.place.index c.write.new.self (_, _) out.0 out.1 out.2 out.3 c.write.ensures.answer c.write.ensures.refused c.write.ensures.used c.write.ensures.frames
