@@ -7,6 +7,6 @@ mod take;
 #[cfg(test)]
 mod tests;
 
-pub use defect_line::{DefectLine, read_defect_line};
+pub use defect_line::{NoMark, read_defect_line};
 pub use number::read_number;
 pub use take::{StockFault, stock_of};

@@ -1,19 +1,14 @@
 ghost use Rattle.std.specs.Prelude.{◌≡◌};
-ghost use Rattle.office.specs.Numbers.{digit_more, number_in};
+ghost use Rattle.office.specs.Numbers.{digit_added, number_in};
 
-// One decimal digit more, while the number fits 32 bits.
-fn with_digit(number: Option<u32>, byte: u8) -> Option<u32>
-    ensures { result ≡ digit_more number byte }
+// The number with one decimal digit more, while it fits 32 bits.
+fn with_digit(number: u32, byte: u8) -> Option<u32>
+    ensures { result ≡ digit_added number byte }
 {
-    let number = u64::from(number?);
-    if byte < 48 || byte > 57 {
+    if !byte.is_ascii_digit() {
         return None;
     }
-    let more = number * 10 + u64::from(byte - 48);
-    if more > 4294967295 {
-        return None;
-    }
-    Some(more as u32)
+    number.checked_mul(10)?.checked_add(u32::from(byte - b'0'))
 }
 
 // The number that decimal digits write, if there is a digit and the number fits 32 bits.
@@ -23,9 +18,9 @@ pub fn read_number(digits: &[u8]) -> Option<u32>
     if digits.is_empty() {
         return None;
     }
-    let mut number = Some(0);
+    let mut number = 0;
     for byte in digits {
-        number = with_digit(number, *byte);
+        number = with_digit(number, *byte)?;
     }
-    number
+    Some(number)
 }

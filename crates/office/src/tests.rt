@@ -1,4 +1,4 @@
-use crate::defect_line::{DefectLine, read_defect_line};
+use crate::defect_line::{NoMark, read_defect_line};
 use crate::number::read_number;
 use defects::{Defect, Mark};
 
@@ -12,13 +12,13 @@ fn a_mark_is_a_page_and_a_word(rt: HostRuntime) {
         page: 0,
         defect: Defect::Lost,
     };
-    assert_eq!(rt; read_defect_line(b"3 worn"), DefectLine::Marks(worn));
-    assert_eq!(rt; read_defect_line(b"0 lost"), DefectLine::Marks(lost));
-    assert_eq!(rt; read_defect_line(b""), DefectLine::Blank);
-    assert_eq!(rt; read_defect_line(b"# 3 worn"), DefectLine::Blank);
-    assert_eq!(rt; read_defect_line(b"3 losst"), DefectLine::Malformed);
-    assert_eq!(rt; read_defect_line(b" worn"), DefectLine::Malformed);
-    assert_eq!(rt; read_defect_line(b"-3 worn"), DefectLine::Malformed);
+    assert_eq!(rt; read_defect_line(b"3 worn"), Ok(Some(worn)));
+    assert_eq!(rt; read_defect_line(b"0 lost"), Ok(Some(lost)));
+    assert_eq!(rt; read_defect_line(b""), Ok(None));
+    assert_eq!(rt; read_defect_line(b"# 3 worn"), Ok(None));
+    assert_eq!(rt; read_defect_line(b"3 losst"), Err(NoMark));
+    assert_eq!(rt; read_defect_line(b" worn"), Err(NoMark));
+    assert_eq!(rt; read_defect_line(b"-3 worn"), Err(NoMark));
 }
 
 #[test]

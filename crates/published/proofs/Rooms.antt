@@ -5,7 +5,8 @@ use Rattle.std.proofs.lemmas.Bool.{false≢true}
 use Rattle.std.proofs.lemmas.Bool.Decides.{nat_tests}
 use Rattle.policy.specs.Sets.{member, distinct, Counted, Chosen}
 use Rattle.two_q.specs.Lists.{less}
-use Rattle.two_q.proofs.Counts.{by_bool, length-less, member-less}
+use Rattle.recency.proofs.Pages.{by_bool}
+use Rattle.policy.proofs.Counts.{length-less, member-less}
 use Rattle.book.specs.Book.{Book, grants, held, held_below}
 use Rattle.turns.specs.Turns.{free}
 use Rattle.published.specs.Fixings.{Fixing}

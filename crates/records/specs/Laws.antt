@@ -1,40 +1,16 @@
-use Rattle.std.specs.Prelude.{◌≡◌, ℕ, ◌^◌, ◌<◌, List, length, Ok, Result}
-use Rattle.std.specs.Int.Digits.{AllBelowBase}
+use Rattle.std.specs.Prelude.{◌≡◌, ℕ, List, Ok, Result}
 use Rattle.records.specs.declared.malformed.Malformed.{Malformed}
-use Rattle.records.specs.declared.batch.Batch.{Batch}
-use Rattle.records.specs.declared.batch.BatchRecord.{BatchRecord}
-use Rattle.records.specs.declared.batch.BatchRecord.TheVariants as batch
-use Rattle.records.specs.declared.fee.Fee.{Fee}
-use Rattle.records.specs.declared.fee.FeeRecord.{FeeRecord}
-use Rattle.records.specs.declared.fee.FeeRecord.TheVariants as fee
+use Rattle.records.specs.declared.record.Record.{Record}
+use Rattle.records.specs.declared.record.Record.TheVariants.{Empty, Entered, Settled}
+use Rattle.records.specs.Form.{Bytes}
+use Rattle.records.specs.Kinds.{BatchFits, FeeFits}
 use Rattle.records.specs.Layout.{batch_bytes, batch_of, fee_bytes, fee_of}
 
--- n bytes: as many numbers, each below 256.
-pub record Bytes (n : ℕ) (bs : List ℕ) : Type 0 where
-  pub long : length bs ≡ n
-  pub under : AllBelowBase 256 bs
-
--- The numbers of a batch fit their widths.
-pub record BatchFits (b : Batch) : Type 0 where
-  pub number_fits : b.number < 2 ^ 32
-  pub grocer_fits : b.grocer < 2 ^ 32
-  pub coupons_fits : b.coupons < 2 ^ 32
-  pub face_value_fits : b.face_value < 2 ^ 64
-
-abbrev pub BatchRecordFits : BatchRecord → Type 0
-BatchRecordFits batch.Empty = Unit {0}
-BatchRecordFits (batch.Entered b) = BatchFits b
-BatchRecordFits (batch.Settled b) = BatchFits b
-
--- The numbers of a fee fit their widths.
-pub record FeeFits (f : Fee) : Type 0 where
-  pub batch_fits : f.batch < 2 ^ 32
-  pub amount_fits : f.amount < 2 ^ 64
-
-abbrev pub FeeRecordFits : FeeRecord → Type 0
-FeeRecordFits fee.Empty = Unit {0}
-FeeRecordFits (fee.Entered f) = FeeFits f
-FeeRecordFits (fee.Settled f) = FeeFits f
+-- The fields of a record fit their widths.
+abbrev pub RecordFits : {T : Type 0} → (T → Type 0) → Record T → Type 0
+RecordFits Fits Empty = Unit {0}
+RecordFits Fits (Entered x) = Fits x
+RecordFits Fits (Settled x) = Fits x
 
 -- Writing a record in n bytes and reading it are each other's inverse: every record has n bytes, one that
 -- fits is read back from them, and n bytes that are read as a record are that record's bytes, and it fits.
@@ -46,5 +22,5 @@ pub record Inverse {R : Type 0} (n : ℕ) (Fit : R → Type 0) (bytes : R → Li
 
 -- The promise of both kinds.
 pub record RoundTrips (n : ℕ) : Type 0 where
-  pub batches : Inverse n BatchRecordFits batch_bytes batch_of
-  pub fees : Inverse n FeeRecordFits fee_bytes fee_of
+  pub batches : Inverse n (RecordFits BatchFits) batch_bytes batch_of
+  pub fees : Inverse n (RecordFits FeeFits) fee_bytes fee_of

@@ -8,6 +8,7 @@ mod fee;
 mod malformed;
 mod place;
 mod read;
+mod record;
 mod show;
 mod status;
 
@@ -15,6 +16,7 @@ pub use batch::{Batch, BatchRecord};
 pub use fee::{Fee, FeeRecord};
 pub use malformed::Malformed;
 pub use place::record_at;
+pub use record::{Fields, Record};
 
 // The bytes of a record.
 pub const RECORD: usize = 32;

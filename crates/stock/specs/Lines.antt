@@ -33,23 +33,20 @@ lines_to l row zero = []
 lines_to l row (suc n) = lines_to l row n ++ (line_of l row n ∷ [])
 
 -- What a look at a page of a volume of n pages did: the line is the page's, the volume as it was.
-pub record DidLook (l : Layout) (n : ℕ) (pages : Row) (page : ℕ) (r : Line) (Valid' : Type 0) (n' : ℕ) (pages' : Row) : Type 0 where
+pub record DidLook (l : Layout) (n : ℕ) (pages : Row) (page : ℕ) (r : Line) (n' : ℕ) (pages' : Row) : Type 0 where
   pub line : r ≡ line_of l pages page
-  pub valid : Valid'
   pub size : n' ≡ n
   pub row : (k : ℕ) → pages' k ≡ pages k
 
 -- What taking stock of a volume of n pages did: where memory sufficed, there is a line for each page
 -- in its order; the volume is as it was.
-pub record DidTake (l : Layout) (n : ℕ) (pages : Row) (r : Result (Vec Line) AllocError) (Valid' : Type 0) (n' : ℕ) (pages' : Row) : Type 0 where
+pub record DidTake (l : Layout) (n : ℕ) (pages : Row) (r : Result (Vec Line) AllocError) (n' : ℕ) (pages' : Row) : Type 0 where
   pub lines : IfOk r (λ v. vec_items v ≡ lines_to l pages n)
-  pub valid : Valid'
   pub size : n' ≡ n
   pub row : (k : ℕ) → pages' k ≡ pages k
 
 -- What has been seen after i pages.
-pub record Seen (l : Layout) (n : ℕ) (pages : Row) (i : ℕ) (lines : List Line) (Valid' : Type 0) (n' : ℕ) (pages' : Row) : Type 0 where
+pub record Seen (l : Layout) (n : ℕ) (pages : Row) (i : ℕ) (lines : List Line) (n' : ℕ) (pages' : Row) : Type 0 where
   pub so_far : lines ≡ lines_to l pages i
-  pub valid : Valid'
   pub size : n' ≡ n
   pub row : (k : ℕ) → pages' k ≡ pages k

@@ -1,13 +1,15 @@
-use Rattle.std.specs.Prelude.{ℕ, zero, suc, ◌+◌, List, Some, None, Option}
+use Rattle.std.specs.Prelude.{ℕ, zero, suc, ◌+◌, List, Some, None, Ok, Option}
 use Rattle.records.specs.Layout.{place_of}
 use Rattle.stock.specs.declared.book.Book.{Book}
-use Rattle.stock.specs.declared.entry.Entry.{Entry}
-use Rattle.stock.specs.declared.entry.Entry.TheVariants.{Empty}
 use Rattle.stock.specs.declared.tally.Tally.{Tally}
-use Rattle.stock.specs.Entries.{entry_of, used_of, malformed_of, amount_of}
+use Rattle.stock.specs.Entries.{Entry, entry_of, used_of, malformed_of, amount_of}
+
+-- One record more.
+abbrev pub tally_more : Tally → Entry → Tally
+tally_more t e = record { used = t.used + used_of e; malformed = t.malformed + malformed_of e; amount = t.amount + amount_of e }
 
 abbrev pub entry_in : Book → Option (List ℕ) → Entry
-entry_in book None = Empty
+entry_in book None = Ok None
 entry_in book (Some bs) = entry_of book bs
 
 -- The entry at a place of a page.

@@ -1,5 +1,7 @@
-ghost use Rattle.std.specs.Prelude.{◌≡◌};
-ghost use Rattle.stock.specs.Books.{book_of};
+ghost use Rattle.std.specs.Prelude.{◌≡◌, Some};
+ghost use Rattle.stock.specs.Books.{book_of, book_word};
+
+use std::fmt;
 
 // The books that stand in a volume one after another.
 #[derive(Clone, Copy, PartialEq, Eq, Debug)]
@@ -7,6 +9,19 @@ pub enum Book {
     Batch,
     Fee,
     Archive,
+}
+
+// One word.
+impl fmt::Display for Book {
+    ghost output = { λ b. Some (book_word b) };
+
+    fn fmt<W: fmt::Write>(&self, f: &mut fmt::Formatter<W>) -> fmt::Result {
+        f.pad(match self {
+            Book::Batch => "batch",
+            Book::Fee => "fee",
+            Book::Archive => "archive",
+        })
+    }
 }
 
 // How many pages the batch book and the fee book have; the archive has the rest.

@@ -17,7 +17,7 @@ pub struct Line {
 
 // Looks at one page of a volume.
 pub fn look<D: Device>(volume: &mut D, layout: Layout, page: u32) -> Line
-    ensures { D.Device.valid volume.old → DidLook layout (D.Device.size volume.old) (D.Device.row volume.old) page result (D.Device.valid volume.new) (D.Device.size volume.new) (D.Device.row volume.new) }
+    ensures { DidLook layout (D.Device.size volume.old) (D.Device.row volume.old) page result (D.Device.size volume.new) (D.Device.row volume.new) }
 {
     let book = layout.book_of(page);
     let state = volume.state(page);
@@ -36,8 +36,5 @@ pub fn look<D: Device>(volume: &mut D, layout: Layout, page: u32) -> Line
 fn heard(book: Book, answer: Result<(), Refusal>, bytes: &[u8; 512]) -> Result<Tally, Refusal>
     ensures { result ≡ heard_of book answer bytes.now }
 {
-    match answer {
-        Ok(()) => Ok(count_records(book, bytes)),
-        Err(refusal) => Err(refusal),
-    }
+    answer.map(|()| count_records(book, bytes))
 }

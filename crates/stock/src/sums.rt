@@ -18,19 +18,13 @@ pub enum Measure {
 fn weight(line: &Line, of: Measure) -> u128
     ensures { result ≡ measured of line.now }
 {
-    match line.found {
-        Ok(tally) => match of {
-            Measure::Pages => 1,
-            Measure::Records => u128::from(tally.used),
-            Measure::Malformed => u128::from(tally.malformed),
-            Measure::Cents => tally.amount,
-            Measure::Refusals => 0,
-        },
-        Err(_) => match of {
-            Measure::Pages => 1,
-            Measure::Refusals => 1,
-            _ => 0,
-        },
+    match (of, line.found) {
+        (Measure::Pages, _) => 1,
+        (Measure::Records, Ok(tally)) => u128::from(tally.used),
+        (Measure::Malformed, Ok(tally)) => u128::from(tally.malformed),
+        (Measure::Cents, Ok(tally)) => tally.amount,
+        (Measure::Refusals, Err(_)) => 1,
+        _ => 0,
     }
 }
 
@@ -38,11 +32,10 @@ fn weight(line: &Line, of: Measure) -> u128
 fn share(line: &Line, book: Book, of: Measure) -> u128
     ensures { result ≡ share_of book of line.now }
 {
-    match (line.book, book) {
-        (Book::Batch, Book::Batch) => weight(line, of),
-        (Book::Fee, Book::Fee) => weight(line, of),
-        (Book::Archive, Book::Archive) => weight(line, of),
-        _ => 0,
+    if line.book == book {
+        weight(line, of)
+    } else {
+        0
     }
 }
 
@@ -50,9 +43,7 @@ fn share(line: &Line, book: Book, of: Measure) -> u128
 pub fn total(lines: &[Line], book: Book, of: Measure) -> Option<u128>
     ensures { result ≡ total_of book of lines.now }
 {
-    let mut sum = 0u128;
-    for line in lines {
-        sum = sum.checked_add(share(line, book, of))?;
-    }
-    Some(sum)
+    lines
+        .iter()
+        .try_fold(0u128, |sum, line| sum.checked_add(share(line, book, of)))
 }

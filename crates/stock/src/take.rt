@@ -11,13 +11,12 @@ pub fn take_stock<D: Device>(
     volume: &mut D,
     layout: Layout,
 ) -> Result<Vec<Line>, AllocError>
-    ensures { D.Device.valid volume.old → DidTake layout (D.Device.size volume.old) (D.Device.row volume.old) result (D.Device.valid volume.new) (D.Device.size volume.new) (D.Device.row volume.new) }
+    ensures { DidTake layout (D.Device.size volume.old) (D.Device.row volume.old) result (D.Device.size volume.new) (D.Device.row volume.new) }
 {
     let mut lines = Vec::new(heap);
     let count = volume.count();
     for page in 0..count {
-        let line = look(volume, layout, page);
-        lines.push(line)?;
+        lines.push(look(volume, layout, page))?;
     }
     Ok(lines)
 }
