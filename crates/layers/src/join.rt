@@ -75,6 +75,8 @@ impl<F: Device, S: Device> Device for Join<F, S> {
         Ok(state.deeper())
     }
 
+    // A read and a write differ in the call below alone, which a closure could not make: it would have to
+    // take either device.
     fn read(&mut self, page: u32, buffer: &mut [u8; 512]) -> Result<(), Refusal> {
         match self.side(page)? {
             Side::First(at) => deeper(self.first.read(at, buffer))?,

@@ -63,6 +63,7 @@ impl<D: Device> Device for Window<D> {
         Ok(state.deeper())
     }
 
+    // A read and a write are three lines each; one function for both would take a closure of the call below.
     fn read(&mut self, page: u32, buffer: &mut [u8; 512]) -> Result<(), Refusal> {
         let at = self.place(page)?;
         deeper(self.below.read(at, buffer))?;

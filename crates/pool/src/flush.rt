@@ -36,6 +36,7 @@ impl<D: Device, P: Policy> Pool<D, P> {
     pub fn flush_all(&mut self)
         ensures { Did self.old FlushAll Done self.new }
     {
+        // Each step has the whole pool to itself, so that the loop can lend no frame, but only tell its number.
         for i in 0..64 {
             self.settle(i);
         }
@@ -48,6 +49,7 @@ impl<D: Device, P: Policy> Pool<D, P> {
         ensures { DidClose self result }
     {
         self.flush_all();
+        // A value that is not to be let go is taken apart by all its fields.
         let Pool {
             device,
             policy: _,
