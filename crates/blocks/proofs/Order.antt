@@ -4,7 +4,7 @@ use Rattle.std.proofs.lemmas.Bool.{eqb-true, eqb-false, ltb-true, ltb-false}
 use Rattle.blocks.specs.declared.block.Block.{Block}
 use Rattle.blocks.specs.Blocks.{before, lesser}
 use Rattle.blocks.specs.First.{NoLater}
-use Rattle.blocks.proofs.Counts.{by_bool}
+use Rattle.recency.proofs.Pages.{by_bool}
 
 pub same : (a : Block) → NoLater a a
 same a = inr (refl, inr (refl, omega arith))

@@ -1,10 +1,11 @@
 -- What the scan finds.
 use Rattle.std.proofs.Common.{◌≡◌, ℕ, Bool, true, false, ◌⊎◌, List, [], ◌∷◌, Some, None, Option, sym, refl, ap, ◌∙◌, subst, inl, inr, ⊎_elim, arith}
+use Rattle.std.specs.List.{fold, filter}
 use Rattle.std.proofs.lemmas.Bool.{false≢true}
 use Rattle.blocks.specs.declared.block.Block.{Block}
 use Rattle.blocks.specs.Blocks.{lesser, scanned}
 use Rattle.blocks.specs.First.{Among, NoLater, FirstOf, FirstAmong}
-use Rattle.blocks.proofs.Counts.{by_bool}
+use Rattle.recency.proofs.Pages.{by_bool}
 use Rattle.blocks.proofs.Order.{same, then, lesser-new, lesser-old, lesser-one}
 
 -- what a scan goes over: the best so far, and the candidates that are to come
@@ -68,3 +69,8 @@ scan-first ok bs =
     wider (From ok None bs) (λ c. Among c bs × (ok c ≡ true)) _ (scan_law ok None bs)
     (λ c f. ⊎_elim (λ e. absurd (none_yet c e)) (λ h. h) f)
     (λ c h. (c, inr h, same c))
+
+-- the scan as std folds it
+pub scan_folds : (ok : Block → Bool) (best : Option Block) (bs : List Block) → fold (λ (o : Option Block) (b : Block). Some (lesser o b)) best (filter ok bs) ≡ scanned ok best bs
+scan_folds ok best [] = refl
+scan_folds ok best (b ∷ bs) = by_bool (ok b) (λ e. rw e (scan_folds ok (Some (lesser best b)) bs)) (λ e. rw e (scan_folds ok best bs))

@@ -1,5 +1,6 @@
 -- History blocks, and lists of them.
 use Rattle.std.specs.Prelude.{ℕ, ◌-◌, Bool, true, false, cond, List, [], ◌∷◌, map, Some, None, Option, ◌==◌, nat_lt}
+use Rattle.recency.specs.Recent as recent
 use Rattle.policy.specs.Sets.{member}
 use Rattle.blocks.specs.declared.block.Block.{Block}
 
@@ -8,23 +9,19 @@ pages bs = map (λ (b : Block). b.page) bs
 
 -- The block of a page, or none.
 abbrev pub found : ℕ → List Block → Option Block
-found p [] = None
-found p (b ∷ bs) = cond (b.page == p) (Some b) (found p bs)
+found p bs = recent.found (λ (b : Block). b.page) p bs
 
 -- HIST1 of a page, or 0 where it has no block.
 abbrev pub earlier : ℕ → List Block → ℕ
 earlier p [] = 0
 earlier p (b ∷ bs) = cond (b.page == p) b.hist1 (earlier p bs)
 
--- The list with the block of a page taken out; the others keep their order.
+-- The list with the block of a page taken out, or made anew in its place; the others keep their order.
 abbrev pub less : ℕ → List Block → List Block
-less p [] = []
-less p (b ∷ bs) = cond (b.page == p) bs (b ∷ less p bs)
+less p bs = recent.less (λ (b : Block). b.page) p bs
 
--- The list with the block of a page made anew in its place.
 abbrev pub renewed : (Block → Block) → ℕ → List Block → List Block
-renewed f p [] = []
-renewed f p (b ∷ bs) = cond (b.page == p) (f b ∷ bs) (b ∷ renewed f p bs)
+renewed f p bs = recent.renewed (λ (b : Block). b.page) f p bs
 
 -- A page is outside its period when more than CRP has passed since LAST; a time before LAST counts
 -- as no time passed.

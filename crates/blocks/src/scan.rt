@@ -1,11 +1,9 @@
 // The rules for one block, and the scan for the block of the page that would leave.
 ghost use Rattle.std.specs.Prelude.{◌≡◌, None};
-ghost use Rattle.policy.specs.Sets.{member};
 ghost use Rattle.blocks.specs.First.{FirstAmong};
 ghost use Rattle.blocks.specs.Blocks.{outside as is_outside, refreshed, before, candidate as is_candidate, lesser as lesser_of, scanned};
 
 use crate::block::Block;
-use recency::place_of;
 
 impl Block {
     // Whether the page is outside its correlated reference period at a time.
@@ -21,46 +19,28 @@ impl Block {
     {
         if self.outside(t, crp) {
             return Block {
-                page: self.page,
                 hist1: t,
                 hist2: self.hist1,
                 last: t,
+                ..self
             };
         }
-        Block {
-            page: self.page,
-            hist1: self.hist1,
-            hist2: self.hist2,
-            last: t,
-        }
+        Block { last: t, ..self }
     }
 
     // Whether this page is to leave before another.
     fn before(self, other: Block) -> bool
         ensures { result ≡ before self other }
     {
-        if self.hist2 != other.hist2 {
-            return self.hist2 < other.hist2;
-        }
-        if self.last != other.last {
-            return self.last < other.last;
-        }
-        self.page < other.page
+        (self.hist2, self.last, self.page) < (other.hist2, other.last, other.page)
     }
-}
-
-// Whether a page is in a list.
-fn lists(list: &[u32], page: u32) -> bool
-    ensures { result ≡ member page list.now }
-{
-    place_of(list, page).is_some()
 }
 
 // Whether a page may leave: it is listed and, where a period is given, outside it.
 fn candidate(block: Block, listed: &[u32], period: Option<u16>, t: u32) -> bool
     ensures { result ≡ is_candidate listed.now period t block }
 {
-    if !lists(listed, block.page) {
+    if !listed.contains(&block.page) {
         return false;
     }
     match period {
@@ -84,7 +64,8 @@ fn lesser(best: Option<Block>, block: Block) -> Block
     }
 }
 
-// The block that is to leave first among those of the candidates.
+// The block that is to leave first among those of the candidates. The fold is the scan that the
+// algorithm prints, so it answers both clauses: `min_by_key` would want the order proved a second time.
 pub fn first_to_leave(
     blocks: &[Block],
     listed: &[u32],
@@ -94,11 +75,8 @@ pub fn first_to_leave(
     ensures first { FirstAmong blocks.now (is_candidate listed.now period t) result }
     ensures value { result ≡ scanned (is_candidate listed.now period t) None blocks.now }
 {
-    let mut best = None;
-    for block in blocks {
-        if candidate(*block, listed, period, t) {
-            best = Some(lesser(best, *block));
-        }
-    }
-    best
+    blocks
+        .iter()
+        .filter(|block| candidate(**block, listed, period, t))
+        .fold(None, |best, block| Some(lesser(best, *block)))
 }

@@ -1,6 +1,5 @@
 -- The places of a defect list, one by one.
-use Rattle.std.proofs.Common.{◌≡◌, ℕ, zero, suc, ◌+◌, ◌<◌, ◌≤◌, Bool, true, false, cond, eqb, ltb, [], ◌∷◌, length, get_or, drop, set, is_some, Some, None, Ok, Err, Option, Result, sym, refl, ap, ◌∙◌, arith, length-set, MatchOption}
-use Rattle.std.proofs.lemmas.List.{at_drop_more, at_drop_all}
+use Rattle.std.proofs.Common.{◌≡◌, ℕ, zero, suc, ◌+◌, ◌<◌, ◌≤◌, Bool, true, false, cond, eqb, ltb, [], ◌∷◌, length, get_or, set, is_some, Some, None, Ok, Err, Option, Result, sym, refl, ap, ◌∙◌, arith, length-set, MatchOption}
 use Rattle.std.proofs.lemmas.Bool.{cond-true, cond-false, eq-eqb, ne_eqb, eqb-true, lt-ltb, false≢true}
 use Rattle.page.specs.declared.refusal.Refusal.{Refusal}
 use Rattle.page.specs.declared.refusal.Refusal.TheVariants.{NoPlace}
@@ -9,19 +8,26 @@ use Rattle.defects.specs.declared.mark.Mark.{Mark}
 use Rattle.defects.specs.Defects.{Marks, Marking, said_of, or_else, mark_of, taken, worst, mark_answer}
 use Rattle.defects.specs.Spots.{Spot, Unmarked, Filled}
 
-pub mark-more : (ms : Marks) (i k : ℕ) → i < length ms → mark_of (drop i ms) k ≡ or_else (said_of (get_or ms i None) k) (mark_of (drop (i + 1) ms) k)
-mark-more ms i k h = at_drop_more (λ t. mark_of t k) ms i None h
-
-pub mark-all : (ms : Marks) (i k : ℕ) → length ms ≤ i → mark_of (drop i ms) k ≡ None
-mark-all ms i k h = at_drop_all (λ t. mark_of t k) ms i h
-
 -- places that say nothing of a page, all of them
-pub unmarked-none : (ms : Marks) (k : ℕ) → Unmarked ms (length ms) k → mark_of ms k ≡ None
+unmarked-none : (ms : Marks) (k : ℕ) → Unmarked ms (length ms) k → mark_of ms k ≡ None
 unmarked-none [] k u = refl
 unmarked-none (m ∷ ms) k u = ap (λ o. or_else o (mark_of ms k)) (u 0 (omega arith)) ∙ unmarked-none ms k (λ j h. u (suc j) (omega arith))
 
+-- what the first place says that says anything of a page
+at_first : (ms : Marks) (i k : ℕ) (d : Defect) → i < length ms → said_of (get_or ms i None) k ≡ Some d → Unmarked ms i k → mark_of ms k ≡ Some d
+at_first [] i k d h e u = absurd (omega arith)
+at_first (m ∷ ms) zero k d h e u = ap (λ o. or_else o (mark_of ms k)) e
+at_first (m ∷ ms) (suc i) k d h e u = ap (λ o. or_else o (mark_of ms k)) (u 0 (omega arith)) ∙ at_first ms i k d (omega arith) e (λ j l. u (suc j) (omega arith))
+
+abbrev pub SaidFirst : Marks → ℕ → Option Defect → Type 0
+SaidFirst ms k r = MatchOption r (Unmarked ms (length ms) k) (λ d. (i : ℕ) × (i < length ms) × (said_of (get_or ms i None) k ≡ Some d) × Unmarked ms i k)
+
+pub said_first : (ms : Marks) (k : ℕ) (r : Option Defect) → SaidFirst ms k r → r ≡ mark_of ms k
+said_first ms k None u = sym (unmarked-none ms k u)
+said_first ms k (Some d) s = sym (at_first ms s.0 k d s.1 s.2 s.3)
+
 -- places that are taken, all of them
-pub filled-taken : (ms : Marks) → Filled ms (length ms) → taken ms ≡ length ms
+filled-taken : (ms : Marks) → Filled ms (length ms) → taken ms ≡ length ms
 filled-taken [] f = refl
 filled-taken (m ∷ ms) f =
     let e = filled-taken ms (λ j h. f (suc j) (omega arith)) in
@@ -53,7 +59,7 @@ said_marked [] i page h s = absurd (omega arith)
 said_marked (m ∷ ms) zero page h s = or_first (said_of m page) (mark_of ms page) s
 said_marked (m ∷ ms) (suc i) page h s = or_some (said_of m page) (mark_of ms page) (said_marked ms i page (omega arith) s)
 
-pub spot_marked : (ms : Marks) (page i : ℕ) → i < length ms → is_some (said_of (get_or ms i None) page) ≡ true → Unmarked ms i page → Spot ms page i
+spot_marked : (ms : Marks) (page i : ℕ) → i < length ms → is_some (said_of (get_or ms i None) page) ≡ true → Unmarked ms i page → Spot ms page i
 spot_marked ms page i h s u = record {
   within = h;
   before = u;
@@ -61,7 +67,7 @@ spot_marked ms page i h s u = record {
   free = said_taken (get_or ms i None) page s ∙ sym (said_marked ms i page h s);
 }
 
-pub spot_free : (ms : Marks) (page i : ℕ) → i < length ms → Unmarked ms (length ms) page → get_or ms i None ≡ None → Spot ms page i
+spot_free : (ms : Marks) (page i : ℕ) → i < length ms → Unmarked ms (length ms) page → get_or ms i None ≡ None → Spot ms page i
 spot_free ms page i h u e = record {
   within = h;
   before = λ j l. u j (omega arith);
@@ -97,9 +103,14 @@ marking ms page i d s =
     }
 
 -- a free place, or none where all are taken
-pub spot_if_free : (ms : Marks) (page : ℕ) → Unmarked ms (length ms) page → (o : Option ℕ) → MatchOption o (Filled ms (length ms)) (λ i. (i < length ms) × (get_or ms i None ≡ None)) → MatchOption o ((mark_of ms page ≡ None) × (taken ms ≡ length ms)) (Spot ms page)
+spot_if_free : (ms : Marks) (page : ℕ) → Unmarked ms (length ms) page → (o : Option ℕ) → MatchOption o (Filled ms (length ms)) (λ i. (i < length ms) × (get_or ms i None ≡ None)) → MatchOption o ((mark_of ms page ≡ None) × (taken ms ≡ length ms)) (Spot ms page)
 spot_if_free ms page u None f = (unmarked-none ms page u, filled-taken ms f)
 spot_if_free ms page u (Some i) h = spot_free ms page i h.0 u h.1
+
+-- the place of the page's mark, or else a free one
+pub spot_by : (ms : Marks) (page : ℕ) (Other : Type 0) (m r : Option ℕ) → MatchOption m (Unmarked ms (length ms) page) (λ i. (i < length ms) × (is_some (said_of (get_or ms i None) page) ≡ true) × Unmarked ms i page) → MatchOption m Other (λ i. r ≡ Some i) → (Other → MatchOption r (Filled ms (length ms)) (λ i. (i < length ms) × (get_or ms i None ≡ None))) → MatchOption r ((mark_of ms page ≡ None) × (taken ms ≡ length ms)) (Spot ms page)
+spot_by ms page Other None r u f free = spot_if_free ms page u r (free f)
+spot_by ms page Other (Some i) r h e free = rw e (spot_marked ms page i h.0 h.1 h.2)
 
 taken-most : (ms : Marks) → taken ms ≤ length ms
 taken-most [] = omega arith

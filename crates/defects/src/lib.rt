@@ -1,4 +1,5 @@
 // The defect list: a layer that marks pages of the device it holds worn or lost.
+// A fault from below passes by `?`, raised one deeper: hence `deeper(..)?` and then the value.
 #![tactic(auto)]
 
 mod list;

@@ -9,7 +9,8 @@ use device::Device;
 use page::{Refusal, State, deeper};
 
 // A device of which up to 16 pages are marked worn or lost. Marks are made while the list is held by
-// nobody else: a part that stands on the list owns it.
+// nobody else: a part that stands on the list owns it. The places are fixed, so that no mark fails for
+// memory, and free or taken each, as the definitions of the row and of a mark's answer speak of them.
 #[derive(Drop)]
 pub struct DefectList<D> {
     below: D,
@@ -17,6 +18,7 @@ pub struct DefectList<D> {
 }
 
 impl<D: Device> DefectList<D> {
+    #[tactic(auto, unfolding(crate::specs::Defects::unmarked))]
     pub fn new(below: D) -> DefectList<D>
         ensures below { result.below ≡ below }
         ensures marks { result.marks ≡ unmarked }
@@ -34,9 +36,7 @@ impl<D: Device> DefectList<D> {
         if page >= self.below.count() {
             return Err(Refusal::NoSuchPage);
         }
-        let Some(place) = spot(&self.marks, page) else {
-            return Err(Refusal::NoPlace);
-        };
+        let place = spot(&self.marks, page).ok_or(Refusal::NoPlace)?;
         let defect = worse_mark(mark_of(&self.marks, page), defect);
         self.marks[place] = Some(Mark { page, defect });
         Ok(())

@@ -1,5 +1,5 @@
-// What a mark makes of a page.
-#[derive(Clone, Copy, PartialEq, Eq, Debug)]
+// What a mark makes of a page, the worse after the better.
+#[derive(Clone, Copy, PartialEq, Eq, PartialOrd, Ord, Debug)]
 pub enum Defect {
     Worn,
     Lost,

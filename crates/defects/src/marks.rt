@@ -9,26 +9,15 @@ use page::{Origin, State};
 fn said(mark: Option<Mark>, page: u32) -> Option<Defect>
     ensures { result ≡ said_of mark page }
 {
-    match mark {
-        Some(mark) => if mark.page == page {
-            Some(mark.defect)
-        } else {
-            None
-        },
-        None => None,
-    }
+    mark.filter(|mark| mark.page == page)
+        .map(|mark| mark.defect)
 }
 
 // The mark of a page.
 pub(crate) fn mark_of(marks: &[Option<Mark>], page: u32) -> Option<Defect>
     ensures { result ≡ mark_of marks.now page }
 {
-    for mark in marks {
-        if let Some(defect) = said(*mark, page) {
-            return Some(defect);
-        }
-    }
-    None
+    marks.iter().find_map(|mark| said(*mark, page))
 }
 
 // The worse of a mark and a state below.
@@ -39,7 +28,7 @@ pub(crate) fn worse(mark: Option<Defect>, page: u32, state: State) -> State
         None => state,
         Some(Defect::Lost) => State::Lost(Origin::here(page)),
         Some(Defect::Worn) => match state {
-            State::Lost(origin) => State::Lost(origin),
+            State::Lost(_) => state,
             _ => State::Worn(Origin::here(page)),
         },
     }
@@ -49,42 +38,26 @@ pub(crate) fn worse(mark: Option<Defect>, page: u32, state: State) -> State
 pub(crate) fn worse_mark(old: Option<Defect>, new: Defect) -> Defect
     ensures { result ≡ worst old new }
 {
-    match old {
-        Some(Defect::Lost) => Defect::Lost,
-        _ => new,
-    }
+    old.map_or(new, |old| old.max(new))
 }
 
 // The first place that has a mark of the page.
 fn marked_place(marks: &[Option<Mark>], page: u32) -> Option<usize>
     ensures { MatchOption result (Unmarked marks.now (length marks.now) page) (λ i. (i < length marks.now) × (is_some (said_of (slice_index_or marks.now i None) page) ≡ true) × Unmarked marks.now i page) }
 {
-    for (i, mark) in marks.iter().enumerate() {
-        if said(*mark, page).is_some() {
-            return Some(i);
-        }
-    }
-    None
+    marks.iter().position(|mark| said(*mark, page).is_some())
 }
 
 // The first free place.
 fn free_place(marks: &[Option<Mark>]) -> Option<usize>
     ensures { MatchOption result (Filled marks.now (length marks.now)) (λ i. (i < length marks.now) × (slice_index_or marks.now i None ≡ None)) }
 {
-    for (i, mark) in marks.iter().enumerate() {
-        if mark.is_none() {
-            return Some(i);
-        }
-    }
-    None
+    marks.iter().position(|mark| mark.is_none())
 }
 
 // Where a mark of the page may go: the place of its mark, or else a free one.
 pub(crate) fn spot(marks: &[Option<Mark>], page: u32) -> Option<usize>
     ensures { MatchOption result ((mark_of marks.now page ≡ None) × (taken marks.now ≡ length marks.now)) (Spot marks.now page) }
 {
-    match marked_place(marks, page) {
-        Some(place) => Some(place),
-        None => free_place(marks),
-    }
+    marked_place(marks, page).or_else(|| free_place(marks))
 }

@@ -1,13 +1,14 @@
 -- Reading the lines of a defect file, one after another.
-use Rattle.std.proofs.Common.{◌≡◌, ℕ, zero, suc, ◌+◌, ◌-◌, ◌<◌, ◌≤◌, List, [], length, get_or, map, Ok, Err, Bor, sym, ap, ◌∙◌, arith}
+use Rattle.std.proofs.Common.{◌≡◌, ℕ, zero, suc, ◌+◌, ◌-◌, ◌<◌, ◌≤◌, List, [], length, get_or, map, Ok, Err, Option, Result, Bor, sym, ap, ◌∙◌, arith}
 use Rattle.std.proofs.lemmas.List.{get_or-map, length-map}
-use Rattle.office.specs.declared.defect_line.DefectLine.{DefectLine}
+use Rattle.office.specs.declared.defect_line.NoMark.{NoMark}
+use Rattle.defects.specs.declared.mark.Mark.{Mark}
 use Rattle.office.specs.DefectLines.{line_in}
 use Rattle.desk.specs.declared.defect_file.LineMark.{LineMark}
 use Rattle.desk.specs.DefectFiles.{with_line, line_more, marks_to, marks_in}
 
 -- one line more
-pub line_step : (ls : List (Bor (List ℕ))) (n : ℕ) (marks : List LineMark) (bs : List ℕ) (said : DefectLine) (d : Bor (List ℕ)) → n < length ls → marks_to (map (λ l. l.now) ls) n ≡ Ok marks → bs ≡ (get_or ls n d).now → said ≡ line_in bs → marks_to (map (λ l. l.now) ls) (n + 1) ≡ with_line (n + 1) marks said
+pub line_step : (ls : List (Bor (List ℕ))) (n : ℕ) (marks : List LineMark) (bs : List ℕ) (said : Result (Option Mark) NoMark) (d : Bor (List ℕ)) → n < length ls → marks_to (map (λ l. l.now) ls) n ≡ Ok marks → bs ≡ (get_or ls n d).now → said ≡ line_in bs → marks_to (map (λ l. l.now) ls) (n + 1) ≡ with_line (n + 1) marks said
 line_step ls n marks bs said d h e g s =
     let more : n + 1 ≡ suc n = omega arith in
     let texts : List (List ℕ) = map (λ l. l.now) ls in

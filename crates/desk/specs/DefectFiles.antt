@@ -2,8 +2,8 @@ use Rattle.std.specs.Prelude.{◌≡◌, ℕ, zero, suc, ◌+◌, List, [], ◌�
 use Rattle.std.specs.Global.{Global}
 use Rattle.std.specs.List.{slice_get}
 use Rattle.office.specs.DefectLines.{line_in}
-use Rattle.office.specs.declared.defect_line.DefectLine.{DefectLine}
-use Rattle.office.specs.declared.defect_line.DefectLine.TheVariants as line
+use Rattle.office.specs.declared.defect_line.NoMark.{NoMark}
+use Rattle.defects.specs.declared.mark.Mark.{Mark}
 use Rattle.volume.specs.declared.marking.MarkRefused.{MarkRefused}
 use Rattle.desk.specs.declared.defect_file.DefectFile.{DefectFile}
 use Rattle.desk.specs.declared.defect_file.LineMark.{LineMark}
@@ -11,10 +11,10 @@ use Rattle.desk.specs.declared.problem.BookProblem.{BookProblem}
 use Rattle.desk.specs.declared.problem.BookProblem.TheVariants as problem
 
 -- What line n, read after others with these marks, makes of the marks. A line that is no mark ends them with its number.
-abbrev pub with_line : ℕ → List LineMark → DefectLine → Result (List LineMark) ℕ
-with_line n marks line.Blank = Ok marks
-with_line n marks (line.Marks m) = Ok (marks ++ (record { line = n; mark = m } ∷ []))
-with_line n marks line.Malformed = Err n
+abbrev pub with_line : ℕ → List LineMark → Result (Option Mark) NoMark → Result (List LineMark) ℕ
+with_line n marks (Ok None) = Ok marks
+with_line n marks (Ok (Some m)) = Ok (marks ++ (record { line = n; mark = m } ∷ []))
+with_line n marks (Err e) = Err n
 
 abbrev pub line_more : Result (List LineMark) ℕ → ℕ → List ℕ → Result (List LineMark) ℕ
 line_more (Ok marks) n bs = with_line n marks (line_in bs)
@@ -34,7 +34,7 @@ Parsed name marks f = (f.name ≡ name) × (marks ≡ Ok (vec_items f.marks))
 
 -- A text is refused at its first line that is no mark, or memory is short.
 abbrev pub Unparsed : String Global → Result (List LineMark) ℕ → BookProblem → Type 0
-Unparsed name marks (problem.Line file n) = (file ≡ name) × (marks ≡ Err n)
+Unparsed name marks (problem.Line file n e) = (file ≡ name) × (marks ≡ Err n)
 Unparsed name marks (problem.Memory e) = Unit {0}
 Unparsed name marks (problem.File file e) = ⊥
 Unparsed name marks (problem.PartPage file n) = ⊥

@@ -3,7 +3,7 @@ ghost use Rattle.desk.specs.DefectFiles.{blamed, marks_in, Parsed, Unparsed};
 
 use crate::problem::BookProblem;
 use defects::Mark;
-use office::{DefectLine, read_defect_line};
+use office::{NoMark, read_defect_line};
 use std::alloc::{AllocError, Global};
 use volume::MarkRefused;
 
@@ -29,12 +29,13 @@ impl DefectFile {
         let mut marks = Vec::new(heap);
         for (before, words) in lines.iter().enumerate() {
             let line = before + 1;
-            match read_defect_line(words.as_bytes()) {
-                DefectLine::Blank => {}
-                DefectLine::Marks(mark) => marks
+            let Ok(read) = read_defect_line(words.as_bytes()) else {
+                return Err(BookProblem::Line(name, line, NoMark));
+            };
+            if let Some(mark) = read {
+                marks
                     .push(LineMark { line, mark })
-                    .map_err(|_full| BookProblem::Memory(AllocError))?,
-                DefectLine::Malformed => return Err(BookProblem::Line(name, line)),
+                    .map_err(|_full| BookProblem::Memory(AllocError))?;
             }
         }
         Ok(DefectFile { name, marks })

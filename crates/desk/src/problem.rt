@@ -1,3 +1,4 @@
+use office::NoMark;
 use page::Refusal;
 use std::alloc::AllocError;
 use std::io;
@@ -10,8 +11,8 @@ pub enum BookProblem {
     File(String, io::Error),
     #[error("{0} has {1} bytes, which is no whole number of pages of 512 bytes")]
     PartPage(String, usize),
-    #[error("line {1} of {0} is no mark: write a page number and worn or lost, as `3 worn`")]
-    Line(String, usize),
+    #[error("line {1} of {0} {2}")]
+    Line(String, usize, NoMark),
     #[error("line {1} of {0} cannot be marked in the batch book: {2}")]
     Mark(String, usize, Refusal),
     #[error("there is not enough memory")]

@@ -12,14 +12,6 @@ const MEASURES: [Measure; 5] = [
     Measure::Refusals,
 ];
 
-fn name(book: Book) -> &'static str {
-    match book {
-        Book::Batch => "batch",
-        Book::Fee => "fee",
-        Book::Archive => "archive",
-    }
-}
-
 // A stock as a table: a line for each page, the totals of each book, and the refusals met.
 #[derive(Clone, Copy)]
 pub struct Table<'a> {
@@ -40,7 +32,6 @@ impl fmt::Display for Row<'_> {
             state,
             found,
         } = *self.line;
-        let book = name(book);
         write!(f, "{page:>6}  {book:<8}")?;
         match state {
             Ok(state) => write!(f, "{state:<6}")?,
@@ -75,10 +66,10 @@ struct Totals<'a> {
 
 impl fmt::Display for Totals<'_> {
     fn fmt<W: fmt::Write>(&self, f: &mut fmt::Formatter<W>) -> fmt::Result {
-        let book = name(self.book);
+        let book = self.book;
         write!(f, "{book:<8}")?;
         for of in MEASURES {
-            match total(self.lines, self.book, of) {
+            match total(self.lines, book, of) {
                 Some(sum) => write!(f, "{sum:>14}")?,
                 None => write!(f, "{:>14}", "too large")?,
             }

@@ -28,6 +28,10 @@ abbrev pub Nth : ℕ → ℕ → Option Place → Type 0
 Nth n k None = n ≤ k
 Nth n k (Some i) = (i.index ≡ k) × (k < n)
 
+-- Where bytes from an offset on end, if that is within a page.
+abbrev pub end_of : ℕ → ℕ → Result ℕ Refusal
+end_of offset len = cond (nat_le (offset + len) 512) (Ok (offset + len)) (Err PastPageEnd)
+
 -- Do bytes from an offset on stay within a page?
 abbrev pub fits : ℕ → ℕ → Result (Unit {0}) Refusal
 fits offset len = cond (nat_le (offset + len) 512) (Ok tt) (Err PastPageEnd)

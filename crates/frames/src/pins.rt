@@ -1,5 +1,5 @@
-ghost use Rattle.std.specs.Prelude.{◌≡◌, nat_le};
-ghost use Rattle.frames.specs.Table.{fresh as fresh_of, pinned as pinned_of, pins as pins_in, pins_of, unpinned as unpinned_of};
+ghost use Rattle.std.specs.Prelude.{◌≡◌, ◌==◌};
+ghost use Rattle.frames.specs.Table.{fresh as fresh_of, pinned as pinned_of, pins as pins_in, pins_of, unpinned as unpinned_of, with_pins as with_pins_of};
 
 use crate::slot::Slot;
 use book::Kind;
@@ -10,16 +10,11 @@ impl Slot {
     pub(crate) fn fresh(kind: Kind, page: u32) -> Slot
         ensures { result ≡ fresh_of kind page }
     {
-        let (readers, updaters) = match kind {
-            Kind::Reading => (1, 0),
-            Kind::Updating => (0, 1),
-        };
-        Slot {
+        let unpinned = Slot {
             page,
-            readers,
-            updaters,
-            changed: false,
-        }
+            ..Slot::default()
+        };
+        unpinned.with_pins(kind, 1)
     }
 
     // How many grants are out, of both kinds.
@@ -39,34 +34,36 @@ impl Slot {
         }
     }
 
+    // The slot with another count of grants of one kind.
+    fn with_pins(self, kind: Kind, count: u8) -> Slot
+        ensures { result ≡ with_pins_of kind self count }
+    {
+        let mut slot = self;
+        match kind {
+            Kind::Reading => slot.readers = count,
+            Kind::Updating => slot.updaters = count,
+        }
+        slot
+    }
+
     // Whether no grant is out.
     pub(crate) fn is_idle(self) -> bool
-        ensures { result ≡ nat_le (pins_in self) 0 }
+        ensures { result ≡ (pins_in self == 0) }
     {
-        self.pins() <= 0
+        self.pins() == 0
     }
 
     // One grant of a kind more, up to 255.
     pub(crate) fn pinned(self, kind: Kind) -> Slot
         ensures { result ≡ pinned_of kind self }
     {
-        let mut slot = self;
-        match kind {
-            Kind::Reading => slot.readers = self.readers.saturating_add(1),
-            Kind::Updating => slot.updaters = self.updaters.saturating_add(1),
-        }
-        slot
+        self.with_pins(kind, self.pins_of(kind).saturating_add(1))
     }
 
     // One grant of a kind less, if there is one.
     pub(crate) fn unpinned(self, kind: Kind) -> Slot
         ensures { result ≡ unpinned_of kind self }
     {
-        let mut slot = self;
-        match kind {
-            Kind::Reading => slot.readers = self.readers.saturating_sub(1),
-            Kind::Updating => slot.updaters = self.updaters.saturating_sub(1),
-        }
-        slot
+        self.with_pins(kind, self.pins_of(kind).saturating_sub(1))
     }
 }

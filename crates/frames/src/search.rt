@@ -1,10 +1,11 @@
-ghost use Rattle.std.specs.Prelude.{◌≡◌, ◌≤◌, take};
+ghost use Rattle.std.specs.Prelude.{◌≡◌};
 ghost use Rattle.frames.specs.Calls.{Found, Nth, Spare};
 ghost use Rattle.frames.specs.Table.{frame as frame_at, idle as idle_in};
 
 use crate::frames::Frames;
 use crate::place::Place;
 use crate::slot::Slot;
+use arrayvec::ArrayVec;
 use policy::FrameCount;
 
 impl Frames {
@@ -12,12 +13,9 @@ impl Frames {
     pub fn find(&self, page: u32) -> Option<Place>
         ensures { Found self.now.used (frame_at self.now) page result }
     {
-        for i in 0..self.used {
-            if self.slots[i].page == page {
-                return Some(Place { index: i });
-            }
-        }
-        None
+        let in_use = &self.slots[..self.used];
+        let index = in_use.iter().position(|slot| slot.page == page)?;
+        Some(Place { index })
     }
 
     // The first free place below a bound.
@@ -26,25 +24,23 @@ impl Frames {
     {
         let index = self.used;
         if index < bound.value() as usize {
-            return Some(Place { index });
+            Some(Place { index })
+        } else {
+            None
         }
-        None
     }
 
-    // Writes the pages with no grant out into a list, and answers how many there are.
-    pub fn idle(&self, list: &mut [u32; 64]) -> usize
-        ensures count { result ≤ 64 }
-        ensures pages { take result list.new ≡ idle_in self.now.used (frame_at self.now) }
+    // The pages with no grant out.
+    pub fn idle(&self) -> ArrayVec<u32, 64>
+        ensures { result.items ≡ idle_in self.now.used (frame_at self.now) }
     {
-        let mut n = 0;
-        for i in 0..self.used {
-            let slot = self.slots[i];
+        let mut pages = ArrayVec::new();
+        for slot in &self.slots[..self.used] {
             if slot.is_idle() {
-                list[n] = slot.page;
-                n += 1;
+                pages.push(slot.page);
             }
         }
-        n
+        pages
     }
 
     // What is known of the frame at a place.
@@ -59,8 +55,9 @@ impl Frames {
         ensures { Nth self.now.used index result }
     {
         if index < self.used {
-            return Some(Place { index });
+            Some(Place { index })
+        } else {
+            None
         }
-        None
     }
 }

@@ -1,6 +1,6 @@
 ghost use Rattle.std.specs.Prelude.{◌≡◌, ℕ, ◌+◌, ◌≤◌, false, length, is_ok};
 ghost use Rattle.book.specs.Bytes.{patched};
-ghost use Rattle.frames.specs.Calls.{fits as fits_in, copied, overwritten};
+ghost use Rattle.frames.specs.Calls.{end_of as end_in, fits as fits_in, copied, overwritten};
 ghost use Rattle.frames.specs.Table.{frame as frame_at, with};
 
 use crate::frames::Frames;
@@ -8,24 +8,14 @@ use crate::place::Place;
 use crate::slot::Slot;
 use page::Refusal;
 
-// Do bytes from an offset on stay within a page?
-fn fits(offset: usize, len: usize) -> Result<(), Refusal>
-    ensures { result ≡ fits_in offset len }
+// Where bytes from an offset on end, if that is within a page.
+fn end_of(offset: usize, len: usize) -> Result<usize, Refusal>
+    ensures { result ≡ end_in offset len }
 {
-    if offset > 512 || len > 512 - offset {
-        return Err(Refusal::PastPageEnd);
-    }
-    Ok(())
-}
-
-// Puts bytes over those from an offset on.
-fn patch(page: &mut [u8; 512], offset: usize, bytes: &[u8])
-    requires { offset + length bytes.now ≤ 512 }
-    ensures { page.new ≡ patched offset bytes.now page.old }
-{
-    let end = offset + bytes.len();
-    let all = &mut page[..];
-    all[offset..end].copy_from_slice(bytes);
+    offset
+        .checked_add(len)
+        .filter(|end| *end <= 512)
+        .ok_or(Refusal::PastPageEnd)
 }
 
 impl Frames {
@@ -33,14 +23,8 @@ impl Frames {
     pub fn new() -> Frames
         ensures { result.used ≡ 0 }
     {
-        let none = Slot {
-            page: 0,
-            readers: 0,
-            updaters: 0,
-            changed: false,
-        };
         Frames {
-            slots: [none; 64],
+            slots: [Slot::default(); 64],
             data: [[0; 512]; 64],
             used: 0,
         }
@@ -58,8 +42,7 @@ impl Frames {
         ensures answer { result ≡ fits_in offset (length buffer.old) }
         ensures buffer { buffer.new ≡ copied (frame_at self.now place.index) offset buffer.old }
     {
-        fits(offset, buffer.len())?;
-        let end = offset + buffer.len();
+        let end = end_of(offset, buffer.len())?;
         buffer.copy_from_slice(&self.data[place.index][offset..end]);
         Ok(())
     }
@@ -71,11 +54,12 @@ impl Frames {
         ensures used { self.new.used ≡ self.old.used }
         ensures frames { (j : ℕ) → frame_at self.new j ≡ with (frame_at self.old) place.index (overwritten (frame_at self.old place.index) offset bytes.now) j }
     {
-        fits(offset, bytes.len())?;
+        let end = end_of(offset, bytes.len())?;
         if bytes.is_empty() {
             return Ok(());
         }
-        patch(&mut self.data[place.index], offset, bytes);
+        let page = &mut self.data[place.index];
+        page[offset..end].copy_from_slice(bytes);
         self.slots[place.index].changed = true;
         Ok(())
     }

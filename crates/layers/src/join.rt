@@ -1,4 +1,6 @@
-ghost use Rattle.std.specs.Prelude.{◌≡◌};
+ghost use Rattle.std.specs.Prelude.{◌≡◌, ◌<◌, ◌≤◌, MatchResult};
+ghost use Rattle.page.specs.declared.refusal.Refusal.TheVariants.{NoSuchPage};
+ghost use Rattle.layers.specs.Join.{LiesAt};
 ghost use Rattle.layers.specs.JoinShape.{join_of};
 
 use device::Device;
@@ -6,6 +8,13 @@ use page::{Refusal, State, deeper};
 
 // No device has more pages.
 const MOST_PAGES: u32 = 4294967295;
+
+// A page of one of the two devices, by its number there.
+#[derive(Clone, Copy)]
+enum Side {
+    First(u32),
+    Second(u32),
+}
 
 // The pages of one device, and then those of another.
 #[derive(Drop)]
@@ -30,6 +39,21 @@ impl<F: Device, S: Device> Join<F, S> {
         let Join { first, second } = self;
         (first, second)
     }
+
+    // Where a page of the join lies.
+    fn side(&self, page: u32) -> Result<Side, Refusal>
+        ensures { MatchResult result (λ side. (page < 4294967295) × LiesAt (F.Device.size self.now.first) page side) (λ e. (e ≡ NoSuchPage) × (4294967295 ≤ page)) }
+    {
+        if page >= MOST_PAGES {
+            return Err(Refusal::NoSuchPage);
+        }
+        let split = self.first.count();
+        if page < split {
+            Ok(Side::First(page))
+        } else {
+            Ok(Side::Second(page - split))
+        }
+    }
 }
 
 impl<F: Device, S: Device> Device for Join<F, S> {
@@ -44,41 +68,27 @@ impl<F: Device, S: Device> Device for Join<F, S> {
     }
 
     fn state(&self, page: u32) -> Result<State, Refusal> {
-        if page >= MOST_PAGES {
-            return Err(Refusal::NoSuchPage);
-        }
-        let split = self.first.count();
-        if page < split {
-            let state = deeper(self.first.state(page))?;
-            Ok(state.deeper())
-        } else {
-            let state = deeper(self.second.state(page - split))?;
-            Ok(state.deeper())
-        }
+        let state = match self.side(page)? {
+            Side::First(at) => deeper(self.first.state(at))?,
+            Side::Second(at) => deeper(self.second.state(at))?,
+        };
+        Ok(state.deeper())
     }
 
+    // A read and a write differ in the call below alone, which a closure could not make: it would have to
+    // take either device.
     fn read(&mut self, page: u32, buffer: &mut [u8; 512]) -> Result<(), Refusal> {
-        if page >= MOST_PAGES {
-            return Err(Refusal::NoSuchPage);
-        }
-        let split = self.first.count();
-        if page < split {
-            deeper(self.first.read(page, buffer))?;
-        } else {
-            deeper(self.second.read(page - split, buffer))?;
+        match self.side(page)? {
+            Side::First(at) => deeper(self.first.read(at, buffer))?,
+            Side::Second(at) => deeper(self.second.read(at, buffer))?,
         }
         Ok(())
     }
 
     fn write(&mut self, page: u32, bytes: &[u8; 512]) -> Result<(), Refusal> {
-        if page >= MOST_PAGES {
-            return Err(Refusal::NoSuchPage);
-        }
-        let split = self.first.count();
-        if page < split {
-            deeper(self.first.write(page, bytes))?;
-        } else {
-            deeper(self.second.write(page - split, bytes))?;
+        match self.side(page)? {
+            Side::First(at) => deeper(self.first.write(at, bytes))?,
+            Side::Second(at) => deeper(self.second.write(at, bytes))?,
         }
         Ok(())
     }

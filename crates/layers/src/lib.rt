@@ -1,4 +1,5 @@
 // Layers that show other pages than the devices they hold: a part of one, or two in a row.
+// A fault from below passes by `?`, raised one deeper: hence `deeper(..)?` and then the value.
 #![tactic(auto)]
 
 mod join;

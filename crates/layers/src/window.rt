@@ -1,4 +1,4 @@
-ghost use Rattle.std.specs.Prelude.{◌≡◌, ◌+◌, ◌<◌, ◌≤◌, MatchResult};
+ghost use Rattle.std.specs.Prelude.{◌≡◌, ◌+◌, ◌<◌, None, MatchResult};
 ghost use Rattle.page.specs.declared.refusal.Refusal.TheVariants.{NoSuchPage};
 ghost use Rattle.layers.specs.WindowShape.{window_of};
 
@@ -30,25 +30,18 @@ impl<D: Device> Window<D> {
     pub fn into_below(self) -> D
         ensures { result ≡ self.below }
     {
-        let Window {
-            below,
-            first: _,
-            length: _,
-        } = self;
+        let Window { below, .. } = self;
         below
     }
 
     // Where a page of the window lies below. No device has a page at 4,294,967,295 or after.
     fn place(&self, page: u32) -> Result<u32, Refusal>
-        ensures { MatchResult result (λ at. (page < self.now.length) × (at ≡ self.now.first + page)) (λ e. (e ≡ NoSuchPage) × (page < self.now.length → 4294967296 ≤ self.now.first + page)) }
+        ensures { MatchResult result (λ at. (page < self.now.length) × (at ≡ self.now.first + page)) (λ e. (e ≡ NoSuchPage) × ((window_of D.Device).row self.now page ≡ None)) }
     {
         if page >= self.length {
             return Err(Refusal::NoSuchPage);
         }
-        let Some(at) = self.first.checked_add(page) else {
-            return Err(Refusal::NoSuchPage);
-        };
-        Ok(at)
+        self.first.checked_add(page).ok_or(Refusal::NoSuchPage)
     }
 }
 
@@ -70,6 +63,7 @@ impl<D: Device> Device for Window<D> {
         Ok(state.deeper())
     }
 
+    // A read and a write are three lines each; one function for both would take a closure of the call below.
     fn read(&mut self, page: u32, buffer: &mut [u8; 512]) -> Result<(), Refusal> {
         let at = self.place(page)?;
         deeper(self.below.read(at, buffer))?;

@@ -1,15 +1,15 @@
 -- The choice is what it is called.
 use Rattle.std.proofs.Common.{◌≡◌, ℕ, ◌-◌, Bool, true, cond, eqb, List, [], ◌∷◌, Some, None, Option, sym, refl, ap, ◌∙◌, subst, inl, inr, ⊎_elim, arith}
-use Rattle.std.specs.Option.{option_map}
+use Rattle.std.specs.Option.{option_map, option_or}
 use Rattle.std.proofs.lemmas.Bool.{false≢true, eqb-true, eq-eqb, ltb-true, lt-ltb}
 use Rattle.std.proofs.lemmas.Bool.Decides.{nat_tests}
 use Rattle.policy.specs.Sets.{member, Chosen}
 use Rattle.blocks.specs.declared.block.Block.{Block}
 use Rattle.blocks.specs.Blocks.{pages, found, allowed, candidate, outside}
 use Rattle.blocks.specs.First.{Among, FirstOf}
-use Rattle.blocks.proofs.Counts.{by_bool}
+use Rattle.recency.proofs.Pages.{by_bool}
 use Rattle.blocks.proofs.Scans.{none_yet, scan-first}
-use Rattle.lru_two.specs.Model.{Model, resident, or_else, chosen}
+use Rattle.lru_two.specs.Model.{Model, resident, chosen}
 use Rattle.lru_two.specs.Choice.{Rival, Outside, Choice}
 use Rattle.lru_two.proofs.Laws.{held}
 
@@ -33,7 +33,7 @@ module _ (m : Model) (l : List ℕ) (t : ℕ) where
   outside_is : (b : Block) → Outside m t b → outside m.crp t b ≡ true
   outside_is b h = lt-ltb m.crp (t - b.last) h
 
-  choose_law : (o u : Option Block) → FirstOf (Over (Some m.crp)) o → FirstOf (Over None) u → Choice m l t (option_map (λ (b : Block). b.page) (or_else o u))
+  choose_law : (o u : Option Block) → FirstOf (Over (Some m.crp)) o → FirstOf (Over None) u → Choice m l t (option_map (λ (b : Block). b.page) (option_or o u))
   choose_law (Some b) u f g = inl (record {
     block = b;
     is = refl;

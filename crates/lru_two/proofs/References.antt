@@ -1,31 +1,34 @@
 -- One reference to the policy is one reference of the printed algorithm.
 use Rattle.std.proofs.Common.{◌≡◌, ℕ, ◌+◌, ◌/◌, ◌<◌, ◌≤◌, Bool, true, false, cond, eqb, ltb, List, ◌∷◌, map, length, take, Some, None, Option, sym, refl, ap, ◌∙◌, subst, arith}
 use Rattle.std.proofs.lemmas.List.{length-map, take-map}
-use Rattle.std.proofs.lemmas.Bool.{false≢true, ltb-true, le-ltb, eqb-true}
+use Rattle.std.proofs.lemmas.Bool.{false≢true, le-ltb, eqb-true}
 use Rattle.policy.specs.Runs.{leaving, swapped, Turn, turn, left_by, Standing}
-use Rattle.policy.specs.Sets.{member, distinct, Chosen, Kept, accepts, entered, grown}
+use Rattle.recency.proofs.Pages.{by_bool}
+use Rattle.policy.specs.Once.{not_counted}
+use Rattle.policy.specs.Sets.{member, distinct, count, Chosen, Kept}
+use Rattle.policy.proofs.Admissions.{Leaves, leaves}
+use Rattle.policy.proofs.Counts.{member-counted, count_none, count_less_le, count-take, once-distinct}
 use Rattle.policy.specs.declared.outcome.Outcome.{Outcome}
 use Rattle.policy.specs.declared.outcome.Outcome.TheVariants.{Hit, Fetch}
 use Rattle.policy.proofs.Turns.{Leaving, accepted, standing-again}
 use Rattle.blocks.specs.declared.block.Block.{Block}
-use Rattle.blocks.specs.Blocks.{pages, less, earlier, refreshed}
+use Rattle.blocks.specs.Blocks.{less, earlier, refreshed}
 use Rattle.lru_two.specs.Model as model
 use Rattle.lru_two.specs.Model.{Model, resident, size, touched, chosen, forgotten, come, admitted}
 use Rattle.lru_two.specs.Of.{lru_two}
 use Rattle.lru_two.specs.AsPrinted.{block_of, of_state}
 use Rattle.lru_two.specs.Printed as printed
 use Rattle.lru_two.specs.Printed.{State, uncorrelated, restarted, updated, dropped, fetched, without, Referred, reference, listed}
-use Rattle.blocks.proofs.Counts.{by_bool}
-use Rattle.lru_two.proofs.Laws.{models, touched-resident, touched-size, none-resident, none-size, some-resident, some_size}
+use Rattle.lru_two.proofs.Laws.{models, touched-resident, touched-size, admitted-resident, admitted-size}
 use Rattle.lru_two.proofs.Picks.{choice, choice-right}
 use Rattle.lru_two.proofs.Shown.{pages_of, found_of, earlier_of, less_of, Beside, elsewhere, anew, updated-beside, updated-here, fetched-beside, fetched-here}
-use Rattle.lru_two.proofs.Sounds.{count, count_none, count-some, none-counted, count_without_le, count-take, once-distinct, Sound, updated-sound, out_of, Drops, fetched-sound}
+use Rattle.lru_two.proofs.Sounds.{Sound, updated-sound, out_of, Drops, fetched-sound}
 use Rattle.lru_two.proofs.Victims.{chosen_of}
 
 abbrev pub outcome_of : Referred → Outcome
 outcome_of a = cond a.fetched (Fetch a.out) Hit
 
-left-fetch : (o : Option ℕ) → left_by (Fetch o) ≡ listed o
+pub left-fetch : (o : Option ℕ) → left_by (Fetch o) ≡ listed o
 left-fetch None = refl
 left-fetch (Some x) = refl
 
@@ -36,27 +39,6 @@ pub record Did (frames crp n : ℕ) (u : Turn Model) (a : Referred) : Type 0 whe
   pub left : left_by (outcome_of a) ≡ listed a.out
   pub sound : Sound frames n a.state
   pub standing : Standing lru_two u.model u.held
-
--- an accepted admission has a leaving page that is resident, or a free frame
-abbrev Leaves : Model → Option ℕ → Type 0
-Leaves m None = size m < m.bound
-Leaves m (Some q) = resident m q ≡ true
-
-accepted_by : (a b : Bool) → cond a false b ≡ true → b ≡ true
-accepted_by true b h = absurd (false≢true h)
-accepted_by false b h = h
-
-leaves : (m : Model) (p : ℕ) (l : Option ℕ) → accepts (resident m) (size m) m.bound p l ≡ true → Leaves m l
-leaves m p None h = ltb-true (size m) m.bound (accepted_by (resident m p) _ h)
-leaves m p (Some q) h = accepted_by (resident m p) _ h
-
-admitted-resident : (m : Model) (p t : ℕ) (l : Option ℕ) → distinct (pages m.blocks) ≡ true → Leaves m l → (r : ℕ) → resident (admitted m p l t) r ≡ entered (resident m) p l r
-admitted-resident m p t None d h r = none-resident m p t r
-admitted-resident m p t (Some q) d h r = some-resident m p q t r d h
-
-admitted-size : (m : Model) (p t : ℕ) (l : Option ℕ) → Leaves m l → size (admitted m p l t) ≡ grown (size m) l
-admitted-size m p t None h = none-size m p t
-admitted-size m p t (Some q) h = some_size m p q t h
 
 module _ (frames crp n : ℕ) (s : State) (held : List ℕ) (p : ℕ) (so : Sound frames n s) (least : 4 ≤ frames) (most : frames ≤ 64) (st : Standing lru_two (of_state frames crp s) held) where
   abbrev m : Model
@@ -109,9 +91,9 @@ module _ (frames crp n : ℕ) (s : State) (held : List ℕ) (p : ℕ) (so : Soun
   pub touched_is : member p s.buffer ≡ true → touched m p t ≡ of_state frames crp (updated crp s t p)
   touched_is here =
       let s' = updated crp s t p in
-      let c = count-some p s.buffer here in
+      let c = member-counted p s.buffer here in
       let o = so.once p in
-      let away : member p s.retained ≡ false = none-counted p s.retained (omega arith) in
+      let away : member p s.retained ≡ false = not_counted p s.retained (omega arith) in
       models
       (anew p (refreshed crp t) s s' (updated-beside crp s t p) (updated-here crp s t p) s.buffer apart ∙ ap (map (block_of s')) same-buffer)
       (elsewhere p s s' (updated-beside crp s t p) s.retained away ∙ ap (map (block_of s')) same-retained)
@@ -141,7 +123,7 @@ module _ (frames crp n : ℕ) (s : State) (held : List ℕ) (p : ℕ) (so : Soun
     absent = in_buffer p ∙ away;
   }
 
-  drops : (o : Option ℕ) → Leaves m o → Drops frames s o
+  drops : (o : Option ℕ) → Leaves (resident m) (size m) m.bound o → Drops frames s o
   drops None h = subst (λ (k : ℕ). k < frames) as_long h
   drops (Some v) h = sym (in_buffer v) ∙ h
 
@@ -166,7 +148,7 @@ module _ (frames crp n : ℕ) (s : State) (held : List ℕ) (p : ℕ) (so : Soun
   admitted_is away None d =
       let a = new-block away None in
       let b = elsewhere p s (s' away None) (beside away None) s.buffer away in
-      let c = forgotten_is away None ∙ elsewhere p s (s' away None) (beside away None) (without p s.retained) (none-counted p _ (none_left away None)) in
+      let c = forgotten_is away None ∙ elsewhere p s (s' away None) (beside away None) (without p s.retained) (not_counted p _ (none_left away None)) in
       models (λ i. a i ∷ b i) c
   admitted_is away (Some v) d =
       let w = s' away (Some v) in
@@ -174,17 +156,17 @@ module _ (frames crp n : ℕ) (s : State) (held : List ℕ) (p : ℕ) (so : Soun
       let rest = without p s.retained in
       let a = new-block away (Some v) in
       let other : eqb v p ≡ false = by_bool (eqb v p) (λ e. absurd (false≢true (sym away ∙ subst (λ (x : ℕ). member x s.buffer ≡ true) (eqb-true v p e) d))) (λ e. e) in
-      let gone : member p (without v s.buffer) ≡ false = none-counted p _ (let x = count_without_le v p s.buffer in let y = count_none p s.buffer away in omega arith) in
+      let gone : member p (without v s.buffer) ≡ false = not_counted p _ (let x = count_less_le v p s.buffer in let y = count_none p s.buffer away in omega arith) in
       let b = less_of s v s.buffer ∙ elsewhere p s w k (without v s.buffer) gone in
       let few : count p (v ∷ rest) ≡ 0 = ap (λ (x : Bool). cond x 1 0 + count p rest) other ∙ (let z = none_left away (Some v) in omega arith) in
-      let out-too : member p (take (frames / 2) (v ∷ rest)) ≡ false = none-counted p _ (let x = count-take p (frames / 2) (v ∷ rest) in omega arith) in
+      let out-too : member p (take (frames / 2) (v ∷ rest)) ≡ false = not_counted p _ (let x = count-take p (frames / 2) (v ∷ rest) in omega arith) in
       let c = ap (λ (bs : List Block). take (frames / 2) (block_of s v ∷ bs)) (forgotten_is away (Some v)) ∙ take-map (block_of s) (frames / 2) (v ∷ rest) ∙ elsewhere p s w k (take (frames / 2) (v ∷ rest)) out-too in
       ap (λ (f : Option Block). come (model.dropped (forgotten m p) v f) (earlier p m.retained) p t) (found_of s v s.buffer d) ∙ models (λ i. a i ∷ b i) c
 
   did-fetch : member p s.buffer ≡ false → Did frames crp (n + 1) fetch (printed.miss frames s t p out)
   did-fetch away =
       let k = leaves_by away in
-      let l = leaves m p out (accepted lru_two m held p t out k) in
+      let l = leaves (resident m) (size m) m.bound p out (accepted lru_two m held p t out k) in
       let d = drops out l in
       record {
         blocks = admitted_is away out d;

@@ -7,7 +7,7 @@ use Rattle.blocks.specs.declared.block.Block.{Block}
 use Rattle.blocks.specs.Blocks.{pages, found, earlier, less, renewed, refreshed}
 use Rattle.lru_two.specs.AsPrinted.{block_of}
 use Rattle.lru_two.specs.Printed.{State, uncorrelated, updated, fetched, without}
-use Rattle.blocks.proofs.Counts.{by_bool}
+use Rattle.recency.proofs.Pages.{by_bool}
 
 pub pages_of : (s : State) (xs : List ℕ) → pages (map (block_of s) xs) ≡ xs
 pages_of s [] = refl

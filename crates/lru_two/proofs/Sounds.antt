@@ -1,51 +1,12 @@
 -- A page is in the buffer or retained, and not both, and stands there once; no time is yet to come.
 -- Every reference keeps that.
-use Rattle.std.proofs.Common.{◌≡◌, ℕ, zero, suc, ◌+◌, ◌/◌, ◌<◌, ◌≤◌, Bool, true, false, cond, eqb, List, [], ◌∷◌, length, take, Some, None, Option, refl, ap, ◌∙◌, subst, arith}
-use Rattle.std.proofs.lemmas.Bool.{false≢true, eqb-true, eq-eqb}
-use Rattle.std.proofs.lemmas.Bool.Decides.{nat_tests}
-use Rattle.policy.specs.Sets.{member, distinct}
+use Rattle.std.proofs.Common.{◌≡◌, ℕ, ◌+◌, ◌/◌, ◌<◌, ◌≤◌, Bool, true, false, cond, eqb, ◌∷◌, length, Some, None, Option, refl, subst, arith}
+use Rattle.std.proofs.lemmas.Bool.{eqb-true}
+use Rattle.recency.proofs.Pages.{by_bool}
+use Rattle.policy.specs.Once.{self_counted}
+use Rattle.policy.specs.Sets.{member, count}
+use Rattle.policy.proofs.Counts.{count_none, count_held, count_less_le, count-take, length-less}
 use Rattle.lru_two.specs.Printed.{State, assign, uncorrelated, updated, emptied, remember, fetched, without, nothing}
-use Rattle.blocks.proofs.Counts.{by_bool}
-
--- how often a page stands in a list
-abbrev pub count : ℕ → List ℕ → ℕ
-count p [] = 0
-count p (x ∷ xs) = cond (eqb x p) 1 0 + count p xs
-
-pub count_none : (p : ℕ) (xs : List ℕ) → member p xs ≡ false → count p xs ≡ 0
-count_none p [] h = refl
-count_none p (x ∷ xs) h = let i = count_none p xs in grind (arith, nat_tests)
-
-pub none-counted : (p : ℕ) (xs : List ℕ) → count p xs ≡ 0 → member p xs ≡ false
-none-counted p [] h = refl
-none-counted p (x ∷ xs) h = let i = none-counted p xs in grind (arith, nat_tests)
-
-pub count-some : (p : ℕ) (xs : List ℕ) → member p xs ≡ true → 1 ≤ count p xs
-count-some p [] h = absurd (false≢true h)
-count-some p (x ∷ xs) h = let i = count-some p xs in grind (arith, nat_tests)
-
-count-without : (q p : ℕ) (xs : List ℕ) → member q xs ≡ true → cond (eqb q p) 1 0 + count p (without q xs) ≡ count p xs
-count-without q p [] h = absurd (false≢true h)
-count-without q p (x ∷ xs) h = let i = count-without q p xs in grind (arith, nat_tests)
-
-pub count_without_le : (q p : ℕ) (xs : List ℕ) → count p (without q xs) ≤ count p xs
-count_without_le q p [] = omega arith
-count_without_le q p (x ∷ xs) = let i = count_without_le q p xs in grind (arith, nat_tests)
-
-pub count-take : (p n : ℕ) (xs : List ℕ) → count p (take n xs) ≤ count p xs
-count-take p zero xs = omega arith
-count-take p (suc n) [] = omega arith
-count-take p (suc n) (x ∷ xs) = let i = count-take p n xs in omega arith
-
-self_counted : (x n : ℕ) → cond (eqb x x) 1 0 + n ≡ 1 + n
-self_counted x n = ap (λ (b : Bool). cond b 1 0 + n) (eq-eqb x x refl)
-
-pub once-distinct : (xs : List ℕ) → ((p : ℕ) → count p xs ≤ 1) → distinct xs ≡ true
-once-distinct [] h = refl
-once-distinct (x ∷ xs) h =
-    let none : count x xs ≡ 0 = omega (arith, h x, self_counted x (count x xs)) in
-    let rest = once-distinct xs (λ p. omega (arith, h p)) in
-    ap (λ (b : Bool). cond b false (distinct xs)) (none-counted x xs none) ∙ rest
 
 abbrev pub total : ℕ → State → ℕ
 total p s = count p s.buffer + count p s.retained
@@ -80,8 +41,8 @@ pub out_of : (frames n : ℕ) (s : State) (p : ℕ) → Sound frames n s → mem
 out_of frames n s p h away =
     let o = h.once p in
     by_bool (member p s.retained)
-    (λ m. let c = count-without p p s.retained m in let l = self_counted p (count p (without p s.retained)) in omega arith)
-    (λ m. let c = count_none p s.retained m in let l = count_without_le p p s.retained in omega arith)
+    (λ m. let c = count_held p p s.retained m in let l = self_counted p (count p (without p s.retained)) in omega arith)
+    (λ m. let c = count_none p s.retained m in let l = count_less_le p p s.retained in omega arith)
 
 -- a page that stands nowhere may come in
 fresh : (p r a b : ℕ) → (eqb p r ≡ true → a + b ≡ 0) → a + b ≤ 1 → cond (eqb p r) 1 0 + a + b ≤ 1
@@ -95,22 +56,18 @@ Drops frames s (Some v) = member v s.buffer ≡ true
 moved-total : (frames : ℕ) (s : State) (p : ℕ) (out : Option ℕ) → Drops frames s out → (r : ℕ) → count r (emptied out s.buffer) + count r (remember frames out (without p s.retained)) ≤ count r s.buffer + count r (without p s.retained)
 moved-total frames s p None d r = omega arith
 moved-total frames s p (Some v) d r =
-    let a = count-without v r s.buffer d in
+    let a = count_held v r s.buffer d in
     let b = count-take r (frames / 2) (v ∷ without p s.retained) in
     omega arith
 
-length_without : (v : ℕ) (xs : List ℕ) → member v xs ≡ true → length (without v xs) + 1 ≡ length xs
-length_without v [] h = absurd (false≢true h)
-length_without v (x ∷ xs) h = let i = length_without v xs in grind (arith, nat_tests)
-
 pub length-emptied : (frames : ℕ) (s : State) (out : Option ℕ) → length s.buffer ≤ frames → Drops frames s out → length (emptied out s.buffer) + 1 ≤ frames
 length-emptied frames s None h d = omega arith
-length-emptied frames s (Some v) h d = let l = length_without v s.buffer d in omega arith
+length-emptied frames s (Some v) h d = let l = length-less v s.buffer d in omega arith
 
 pub fetched-sound : (frames n : ℕ) (s : State) (p : ℕ) (out : Option ℕ) → Sound frames n s → member p s.buffer ≡ false → Drops frames s out → Sound frames (n + 1) (fetched frames s (n + 1) p out)
 fetched-sound frames n s p out h away d = record {
   once = λ r. (let m = moved-total frames s p out d r in
-      let w = count_without_le p r s.retained in
+      let w = count_less_le p r s.retained in
       let o = h.once r in
       let f = fresh p r (count r (emptied out s.buffer)) (count r (remember frames out (without p s.retained))) (none r) (omega arith) in
       omega arith);

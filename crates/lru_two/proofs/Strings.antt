@@ -1,43 +1,15 @@
 -- A run of the policy over a reference string is the printed run over it.
-use Rattle.std.proofs.Common.{◌≡◌, ℕ, ◌+◌, ◌≤◌, Bool, true, false, cond, List, [], ◌∷◌, ◌++◌, length, take, sym, refl, ap, ◌∙◌, subst, append_assoc, arith}
-use Rattle.std.proofs.lemmas.List.{append-nil, length_push}
+use Rattle.std.proofs.Common.{◌≡◌, ℕ, ◌+◌, ◌≤◌, cond, List, [], ◌∷◌, ◌++◌, length, take, sym, refl, ap, ◌∙◌, subst}
+use Rattle.std.proofs.lemmas.List.{length_push}
 use Rattle.policy.specs.Runs.{turn, Course, start, refer, run, hit_by, hits, fetches, left_by, left, reach, DidRun, Standing}
 use Rattle.policy.specs.declared.outcome.Outcome.{Outcome}
-use Rattle.policy.specs.declared.outcome.Outcome.TheVariants.{Hit, Fetch}
+use Rattle.policy.proofs.Tallies.{left_push, hits_push, fetches_push, hit_of, fetch_of}
 use Rattle.lru_two.specs.AsPrinted.{of_state, AsPrinted}
 use Rattle.lru_two.specs.Model.{Model, empty}
 use Rattle.lru_two.specs.Of.{lru_two}
-use Rattle.lru_two.specs.Printed.{nothing, Referred, reference, Run, tallied, run_from, printed_run}
-use Rattle.lru_two.proofs.References.{outcome_of, Did, refers}
+use Rattle.lru_two.specs.Printed.{nothing, reference, Run, tallied, run_from, printed_run}
+use Rattle.lru_two.proofs.References.{Did, refers}
 use Rattle.lru_two.proofs.Sounds.{Sound, nothing-sound}
-
--- what is read off the outcomes, with one more
-left_push : (os : List Outcome) (o : Outcome) → left (os ++ o ∷ []) ≡ left os ++ left_by o
-left_push [] o = append-nil (left_by o)
-left_push (p ∷ os) o = ap (λ (l : List ℕ). left_by p ++ l) (left_push os o) ∙ sym (append_assoc (left_by p) (left os) (left_by o))
-
-hits_push : (os : List Outcome) (o : Outcome) → hits (os ++ o ∷ []) ≡ hits os + cond (hit_by o) 1 0
-hits_push [] o = omega arith
-hits_push (p ∷ os) o = let i = hits_push os o in omega arith
-
-fetches_push : (os : List Outcome) (o : Outcome) → fetches (os ++ o ∷ []) ≡ fetches os + cond (hit_by o) 0 1
-fetches_push [] o = omega arith
-fetches_push (p ∷ os) o = let i = fetches_push os o in omega arith
-
--- a reference that fetched is no hit
-hit_of : (a : Referred) → ◌≡◌ {A = ℕ} (cond (hit_by (outcome_of a)) 1 0) (cond a.fetched 0 1)
-hit_of a = by a.fetched
-  where
-    by : (b : Bool) → ◌≡◌ {A = ℕ} (cond (hit_by (cond b (Fetch a.out) Hit)) 1 0) (cond b 0 1)
-    by true = refl
-    by false = refl
-
-fetch_of : (a : Referred) → ◌≡◌ {A = ℕ} (cond (hit_by (outcome_of a)) 0 1) (cond a.fetched 1 0)
-fetch_of a = by a.fetched
-  where
-    by : (b : Bool) → ◌≡◌ {A = ℕ} (cond (hit_by (cond b (Fetch a.out) Hit)) 0 1) (cond b 1 0)
-    by true = refl
-    by false = refl
 
 module _ (frames crp : ℕ) (least : 4 ≤ frames) (most : frames ≤ 64) where
   -- where a run of the policy and a printed run stand alike
@@ -60,8 +32,8 @@ module _ (frames crp : ℕ) (least : 4 ≤ frames) (most : frames ≤ 64) where
       record {
         blocks = d.blocks;
         left = left_push c.outcomes o ∙ ap (λ (l : List ℕ). l ++ left_by o) h.left ∙ ap (λ (l : List ℕ). r.left ++ l) (ap left_by d.outcome ∙ d.left);
-        hits = hits_push c.outcomes o ∙ ap (λ (k : ℕ). k + cond (hit_by o) 1 0) h.hits ∙ ap (λ (k : ℕ). r.hits + k) (ap (λ (w : Outcome). cond (hit_by w) 1 0) d.outcome ∙ hit_of a);
-        fetches = fetches_push c.outcomes o ∙ ap (λ (k : ℕ). k + cond (hit_by o) 0 1) h.fetches ∙ ap (λ (k : ℕ). r.fetches + k) (ap (λ (w : Outcome). cond (hit_by w) 0 1) d.outcome ∙ fetch_of a);
+        hits = hits_push c.outcomes o ∙ ap (λ (k : ℕ). k + cond (hit_by o) 1 0) h.hits ∙ ap (λ (k : ℕ). r.hits + k) (ap (λ (w : Outcome). cond (hit_by w) 1 0) d.outcome ∙ hit_of a.fetched a.out);
+        fetches = fetches_push c.outcomes o ∙ ap (λ (k : ℕ). k + cond (hit_by o) 0 1) h.fetches ∙ ap (λ (k : ℕ). r.fetches + k) (ap (λ (w : Outcome). cond (hit_by w) 0 1) d.outcome ∙ fetch_of a.fetched a.out);
         sound = subst (λ (k : ℕ). Sound frames k a.state) (sym (length_push c.outcomes o)) d.sound;
         standing = d.standing;
       }

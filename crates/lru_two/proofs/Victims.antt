@@ -1,16 +1,16 @@
 -- The scan over the blocks of a printed state is the printed scan.
 use Rattle.std.proofs.Common.{◌≡◌, ℕ, ◌<◌, Bool, true, false, cond, eqb, ltb, List, [], ◌∷◌, map, Some, None, Option, sym, refl, ap, ◌∙◌, arith}
-use Rattle.std.specs.Option.{option_map}
+use Rattle.std.specs.Option.{option_map, option_or}
 use Rattle.std.proofs.lemmas.Bool.{eq-eqb, lt-ltb}
 use Rattle.std.proofs.lemmas.Bool.Decides.{nat_tests}
 use Rattle.policy.specs.Sets.{member}
 use Rattle.blocks.specs.declared.block.Block.{Block}
 use Rattle.blocks.specs.Blocks.{before, candidate, lesser, scanned}
-use Rattle.lru_two.specs.Model.{or_else, chosen}
+use Rattle.lru_two.specs.Model.{chosen}
 use Rattle.lru_two.specs.AsPrinted.{block_of, of_state}
 use Rattle.lru_two.specs.Printed as printed
 use Rattle.lru_two.specs.Printed.{State, uncorrelated, tie, scan, either, victim}
-use Rattle.blocks.proofs.Counts.{by_bool}
+use Rattle.recency.proofs.Pages.{by_bool}
 
 module _ (s : State) (t : ℕ) (old : (q : ℕ) → s.hist2 q < t) where
   sooner : (x v : ℕ) → before (block_of s x) (block_of s v) ≡ cond (ltb (s.hist2 x) (s.hist2 v)) true (tie s x (Some v))
@@ -40,7 +40,7 @@ module _ (s : State) (t : ℕ) (old : (q : ℕ) → s.hist2 q < t) where
       later : (y : ℕ) → member y xs ≡ true → member y (x ∷ xs) ≡ true
       later y m = by_bool (eqb x y) (λ e. rw e) (λ e. rw e m)
 
-  pub pages-either : (o u : Option ℕ) → option_map (λ (b : Block). b.page) (or_else (option_map (block_of s) o) (option_map (block_of s) u)) ≡ either o u
+  pub pages-either : (o u : Option ℕ) → option_map (λ (b : Block). b.page) (option_or (option_map (block_of s) o) (option_map (block_of s) u)) ≡ either o u
   pages-either (Some x) u = refl
   pages-either None None = refl
   pages-either None (Some x) = refl
@@ -50,4 +50,4 @@ module _ (s : State) (t : ℕ) (old : (q : ℕ) → s.hist2 q < t) where
   chosen_of frames crp listed h =
       let a = scan_of (candidate listed (Some crp) t) (uncorrelated crp s t) None s.buffer (λ x m. ap (λ (b : Bool). cond b (uncorrelated crp s t x) false) (h x m)) in
       let c = scan_of (candidate listed None t) (λ x. true) None s.buffer (λ x m. ap (λ (b : Bool). cond b true false) (h x m)) in
-      (λ i. option_map (λ (b : Block). b.page) (or_else (a i) (c i))) ∙ pages-either (scan s t (uncorrelated crp s t) None s.buffer) (scan s t (λ x. true) None s.buffer)
+      (λ i. option_map (λ (b : Block). b.page) (option_or (a i) (c i))) ∙ pages-either (scan s t (uncorrelated crp s t) None s.buffer) (scan s t (λ x. true) None s.buffer)

@@ -1,7 +1,7 @@
 -- What LRU-2 remembers: the blocks of the resident pages, the blocks of pages that left, from the
 -- one that left last, the frame count and the correlated reference period.
 use Rattle.std.specs.Prelude.{ℕ, ◌/◌, Bool, List, [], ◌∷◌, length, take, Some, None, Option}
-use Rattle.std.specs.Option.{option_map}
+use Rattle.std.specs.Option.{option_map, option_or}
 use Rattle.policy.specs.Sets.{member}
 use Rattle.blocks.specs.declared.block.Block.{Block}
 use Rattle.blocks.specs.Blocks.{pages, found, earlier, less, renewed, refreshed, candidate, scanned}
@@ -27,12 +27,8 @@ touched m p t = record { bound = m.bound; crp = m.crp; blocks = renewed (refresh
 
 -- The choice: among the listed pages outside their period and, if there are none, among all that are
 -- listed.
-abbrev pub or_else : Option Block → Option Block → Option Block
-or_else None o = o
-or_else (Some b) o = Some b
-
 abbrev pub victim : Model → List ℕ → ℕ → Option Block
-victim m listed t = or_else (scanned (candidate listed (Some m.crp) t) None m.blocks) (scanned (candidate listed None t) None m.blocks)
+victim m listed t = option_or (scanned (candidate listed (Some m.crp) t) None m.blocks) (scanned (candidate listed None t) None m.blocks)
 
 abbrev pub chosen : Model → List ℕ → ℕ → Option ℕ
 chosen m listed t = option_map (λ (b : Block). b.page) (victim m listed t)

@@ -1,6 +1,5 @@
 -- What the policy LRU-2 means.
-use Rattle.std.proofs.Common.{arith, length-take}
-use Rattle.std.specs.Prelude.{take, refl}
+use Rattle.std.specs.Prelude.{refl}
 use Rattle.std.proofs.lemmas.List.{length-map}
 use Rattle.policy.specs.Sets.{Kept}
 use Rattle.policy.specs.declared.policy.Policy as policy
@@ -10,14 +9,14 @@ use Rattle.blocks.specs.Blocks.{pages}
 use Rattle.lru_two.specs.Model.{Model, resident, size, empty, touched, chosen, admitted}
 
 abbrev pub model : LruTwo → Model
-model s = record { bound = s.frames.value; crp = s.crp; blocks = take s.len s.blocks; retained = take s.retained_len s.retained }
+model s = record { bound = s.frames.value; crp = s.crp; blocks = s.blocks; retained = s.retained }
 
 pub kept : (s : LruTwo) → Kept (resident (model s)) (size (model s)) s.frames.value
 kept s = record {
   least = s.frames.least;
   most = s.frames.most;
-  within = omega (arith, s.few, length-take s.len s.blocks);
-  counted = (pages (take s.len s.blocks), s.once, length-map (take s.len s.blocks) (λ (b : Block). b.page), λ q. refl);
+  within = s.few;
+  counted = (pages s.blocks, s.once, length-map s.blocks (λ (b : Block). b.page), λ q. refl);
 }
 
 abbrev pub lru_two : policy.Ghosts LruTwo

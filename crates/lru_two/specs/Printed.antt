@@ -3,6 +3,7 @@
 -- two uncorrelated references to p, and LAST(p) is the time of the last reference of any kind. What
 -- we had to add is marked "ours".
 use Rattle.std.specs.Prelude.{ℕ, ◌+◌, ◌-◌, ◌/◌, Bool, true, false, cond, List, [], ◌∷◌, ◌++◌, length, take, Some, None, Option, ◌==◌, nat_lt}
+use Rattle.recency.specs.Recent.{less}
 use Rattle.policy.specs.Sets.{member}
 
 pub record State : Type 0 where
@@ -66,9 +67,9 @@ victim crp s t = either (scan s t (uncorrelated crp s t) None s.buffer) (scan s 
 abbrev pub dropped : ℕ → ℕ → State → ℕ → Option ℕ
 dropped frames crp s t = cond (nat_lt (length s.buffer) frames) None (victim crp s t)
 
+-- a list of pages without one of them
 abbrev pub without : ℕ → List ℕ → List ℕ
-without p [] = []
-without p (q ∷ qs) = cond (q == p) qs (q ∷ without p qs)
+without p qs = less (λ (q : ℕ). q) p qs
 
 abbrev pub emptied : Option ℕ → List ℕ → List ℕ
 emptied None qs = qs

@@ -33,8 +33,8 @@ impl Policy for LruTwo {
     }
 
     fn restart(&mut self) {
-        self.len = 0;
-        self.retained_len = 0;
+        self.blocks.clear();
+        self.retained.clear();
     }
 
     fn hit(&mut self, page: u32, t: u32) -> bool {
@@ -52,36 +52,19 @@ impl Policy for LruTwo {
         ensures right { Chosen (lru_two.resident (lru_two.model self.now)) listed.now result }
         ensures first { Choice (lru_two.model self.now) listed.now t result }
     {
-        if let Some(block) = first_to_leave(self.resident_blocks(), listed, Some(self.crp), t) {
-            return Some(block.page);
-        }
-        match first_to_leave(self.resident_blocks(), listed, None, t) {
-            Some(block) => Some(block.page),
-            None => None,
-        }
+        let blocks = self.resident_blocks();
+        first_to_leave(blocks, listed, Some(self.crp), t)
+            .or_else(|| first_to_leave(blocks, listed, None, t))
+            .map(|block| block.page)
     }
 
     fn admit(&mut self, page: u32, leaving: Option<u32>, t: u32) -> bool {
-        if self.has(page) {
+        if !self.takes(page, leaving) {
             return false;
         }
-        match leaving {
-            Some(gone) => {
-                if !self.has(gone) {
-                    return false;
-                }
-                let earlier = self.forget(page);
-                self.let_out(gone);
-                self.let_in(page, earlier, t);
-            }
-            None => {
-                if self.is_full() {
-                    return false;
-                }
-                let hist2 = self.forget(page);
-                self.let_in(page, hist2, t);
-            }
-        }
+        let hist2 = self.forget(page);
+        self.let_out(leaving);
+        self.let_in(page, hist2, t);
         true
     }
 }

@@ -7,7 +7,6 @@ mod look;
 mod lru_two;
 mod run;
 mod steps;
-mod tables;
 #[cfg(test)]
 mod tests;
 

@@ -5,6 +5,7 @@ ghost use Rattle.lru_two.specs.Of.{model};
 use crate::lru_two::LruTwo;
 use blocks::Block;
 use policy::FrameCount;
+use recency::Table;
 
 // Ways to make the policy and to look at what it remembers.
 impl LruTwo {
@@ -21,10 +22,8 @@ impl LruTwo {
         LruTwo {
             frames,
             crp,
-            blocks: [none; 64],
-            len: 0,
-            retained: [none; 32],
-            retained_len: 0,
+            blocks: Table::new(none),
+            retained: Table::new(none),
         }
     }
 
@@ -38,13 +37,13 @@ impl LruTwo {
     pub fn resident_blocks(&self) -> &[Block]
         ensures { result.now ≡ (model self.now).blocks }
     {
-        &self.blocks[0..self.len]
+        self.blocks.as_slice()
     }
 
     // The blocks of pages that left, the one that left last first.
     pub fn retained(&self) -> &[Block]
         ensures { result.now ≡ (model self.now).retained }
     {
-        &self.retained[0..self.retained_len]
+        self.retained.as_slice()
     }
 }

@@ -1,35 +1,49 @@
 // The steps that an admission and a hit are made of.
-ghost use Rattle.std.specs.Prelude.{◌≡◌, ◌<◌, false, Some, nat_le};
+ghost use Rattle.std.specs.Prelude.{◌≡◌, ◌<◌, false, nat_le};
+ghost use Rattle.policy.specs.Sets.{accepts};
 ghost use Rattle.blocks.specs.Blocks.{earlier};
 ghost use Rattle.lru_two.specs.Model.{resident, size, touched, forgotten, gone, come};
 ghost use Rattle.lru_two.specs.Of.{model};
 
 use crate::lru_two::LruTwo;
-use crate::tables::{push, remove, renew};
-use blocks::{Block, block_of, hist1_of};
+use blocks::Block;
 
 impl LruTwo {
     // Whether a page is resident.
     pub(crate) fn has(&self, page: u32) -> bool
         ensures { result ≡ resident (model self.now) page }
     {
-        block_of(self.resident_blocks(), page).is_some()
+        self.blocks.contains(page)
     }
 
     // Whether there are as many resident pages as frames.
-    pub(crate) fn is_full(&self) -> bool
+    fn is_full(&self) -> bool
         ensures { result ≡ nat_le (model self.now).bound (size (model self.now)) }
     {
-        self.resident_blocks().len() >= self.frames.value() as usize
+        self.blocks.len() >= self.frames.value() as usize
+    }
+
+    // Whether a page may come in and the leaving one, if any, go out.
+    pub(crate) fn takes(&self, page: u32, leaving: Option<u32>) -> bool
+        ensures { result ≡ accepts (resident (model self.now)) (size (model self.now)) (model self.now).bound page leaving }
+    {
+        if self.has(page) {
+            return false;
+        }
+        match leaving {
+            Some(gone) => self.has(gone),
+            None => !self.is_full(),
+        }
     }
 
     // A hit of a resident page.
     pub(crate) fn touch(&mut self, page: u32, t: u32)
         ensures { model self.new ≡ touched (model self.old) page t }
     {
-        let len = self.len;
-        let crp = self.crp;
-        renew(&mut self.blocks, len, page, t, crp);
+        let Some(block) = self.blocks.find(page) else {
+            return;
+        };
+        self.blocks.replace(block.refreshed(t, self.crp));
     }
 
     // Takes the retained block of a page out, and answers its HIST1, or 0 where there is none.
@@ -37,27 +51,22 @@ impl LruTwo {
         ensures answer { result ≡ earlier page (model self.old).retained }
         ensures after { model self.new ≡ forgotten (model self.old) page }
     {
-        let hist1 = hist1_of(self.retained(), page);
-        let len = self.retained_len;
-        let len = remove(&mut self.retained, len, page);
-        self.retained_len = len;
-        hist1
+        self.retained.remove(page).map_or(0, |block| block.hist1)
     }
 
-    // A page leaves, and its block is retained.
-    pub(crate) fn let_out(&mut self, page: u32)
-        ensures { model self.new ≡ gone (model self.old) (Some page) }
+    // The leaving page, if any, goes out, and its block is retained.
+    pub(crate) fn let_out(&mut self, leaving: Option<u32>)
+        ensures { model self.new ≡ gone (model self.old) leaving }
     {
-        let Some(block) = block_of(self.resident_blocks(), page) else {
+        let Some(page) = leaving else {
             return;
         };
-        let len = self.len;
-        let len = remove(&mut self.blocks, len, page);
-        self.len = len;
         let most = self.frames.value() as usize / 2;
-        let kept = self.retained_len.min(most - 1);
-        let len = push(&mut self.retained, kept, block);
-        self.retained_len = len;
+        let Some(block) = self.blocks.remove(page) else {
+            return;
+        };
+        self.retained.push(block);
+        self.retained.truncate(most);
     }
 
     // A page comes in.
@@ -72,8 +81,6 @@ impl LruTwo {
             hist2,
             last: t,
         };
-        let len = self.len;
-        let len = push(&mut self.blocks, len, block);
-        self.len = len;
+        self.blocks.push(block);
     }
 }

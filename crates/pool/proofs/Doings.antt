@@ -1,14 +1,15 @@
 -- What a refused call and an accepted fix come to.
 use Rattle.std.proofs.Common.{◌≡◌, ℕ, ◌+◌, Bool, true, false, cond, eqb, ◌≢◌, List, [], ◌∷◌, IsErrAnd, Some, None, Ok, Err, Option, Result, sym, refl, ap, ◌∙◌, subst, inl, inr, arith, MatchOption}
-use Rattle.std.proofs.lemmas.Result.{err_from_is_err_and}
+use Rattle.std.specs.Option.{ok_or}
 use Rattle.std.proofs.lemmas.Bool.{both_ways, false≢true, cond-true, cond-false, eq-eqb, ne_eqb}
 use Rattle.page.specs.declared.refusal.Refusal.{Refusal}
 use Rattle.device.specs.declared.device.Device as device
+use Rattle.device.proofs.Passing.{exit_passed}
 use Rattle.policy.specs.declared.outcome.Outcome.{Outcome}
 use Rattle.policy.specs.declared.outcome.Outcome.TheVariants.{Hit, Fetch}
 use Rattle.policy.specs.declared.policy.Policy as policy
 use Rattle.book.specs.Book.{Book, refusal, accepted, decided, says, next}
-use Rattle.book.specs.Call.{Call}
+use Rattle.book.specs.Call.{Call, Answer}
 use Rattle.book.specs.Call.Call.{Fix}
 use Rattle.book.specs.Call.Answer.{Granted, Refused}
 use Rattle.book.specs.declared.grant.Kind.{Kind}
@@ -42,7 +43,12 @@ verdict-none (Some x) e = let z : ◌≡◌ {A = ℕ} 0 1 = cc in absurd (omega 
 
 -- the exit of a `?` returns the error as it was
 pub exit_err : {A : Type 0} (r : Result A Refusal) (e : Refusal) → IsErrAnd r (λ y. y ≡ e) → r ≡ Err e
-exit_err r e h = let p = err_from_is_err_and r h in p.1 ∙ ap Err p.2
+exit_err r e h = exit_passed r (Err e) e h refl
+
+-- and an `ok_or` at a none gives its error
+pub none_err : {A : Type 0} (o : Option A) (e r : Refusal) → o ≡ None → Err e ≡ ok_or o r → e ≡ r
+none_err None e r n h = cc
+none_err (Some x) e r n h = absurd (some-none x n)
 
 -- no turn of the policy's
 pub no_turn : {P : Type 0} (p : policy.Ghosts P) (b : Book) (x x' : Course p.Model) (call : Call) → unless (refusal b call) (named call) ≡ None → x' ≡ x → Turned p b x call [] x'
@@ -74,6 +80,12 @@ module _ {D P : Type 0} {d : device.Ghosts D} {p : policy.Ghosts P} where
     still = λ h. refl;
     apart = λ q h. refl;
   }
+
+  -- the exit of a `?` answers the refusal
+  pub exit_refused : (pool : Pool D P d p) (call : Call) (answer : Result (Unit {0}) Refusal → Answer) → ((e : Refusal) → answer (Err e) ≡ Refused e) → (r : Result (Unit {0}) Refusal) (e : Refusal) → IsErrAnd r (λ y. y ≡ e) → refusal (book pool) call ≡ Some e → Did pool call (answer r) pool
+  exit_refused pool call answer is r e h why =
+      let A : Answer → Type 0 = λ a. Did pool call a pool in
+      subst A (sym (ap answer (exit_err r e h) ∙ is e)) (did-refused pool call e why)
 
   pub did_fix : (pool pool' : Pool D P d p) (kind : Kind) (page : ℕ) → refusal (book pool) (Fix kind page) ≡ None → DidTake pool kind page (pool.clock + 1) pool' → Did pool (Fix kind page) (Granted (record { kind = kind; mark = pool.mark; page = page })) pool'
   did_fix pool pool' kind page e t =

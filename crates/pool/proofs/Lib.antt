@@ -1,3 +1,4 @@
+pub mod Admitting
 pub mod Asking
 pub mod Books
 pub mod Changes

@@ -1,5 +1,5 @@
 -- Reads, writes and unfixes of a page in a frame.
-use Rattle.std.proofs.Common.{◌≡◌, ℕ, ◌+◌, ◌-◌, ◌<◌, ◌≤◌, Bool, true, false, cond, eqb, leb, List, [], ◌∷◌, ◌++◌, length, take, drop, is_ok, Some, None, Ok, Err, Option, Result, sym, refl, ap, ◌∙◌, subst, inl, inr, add-zero, arith}
+use Rattle.std.proofs.Common.{◌≡◌, ℕ, ◌+◌, ◌-◌, ◌<◌, ◌≤◌, Bool, true, false, cond, eqb, leb, List, [], ◌∷◌, ◌++◌, length, take, drop, is_ok, IsErrAnd, Some, None, Ok, Err, Option, Result, sym, refl, ap, ◌∙◌, subst, inl, inr, add-zero, arith}
 use Rattle.std.proofs.lemmas.List.{take-append-drop}
 use Rattle.std.proofs.lemmas.Bool.{both_ways, false≢true, cases_Bool, cond-true, cond-false, eq-eqb, ne_eqb, leb-true}
 use Rattle.page.specs.declared.refusal.Refusal.{Refusal}
@@ -29,7 +29,7 @@ use Rattle.pool.specs.Meaning.{book, course, shown, pins_at}
 use Rattle.pool.specs.Tied.{Stands, Tied, Tied-prop}
 use Rattle.pool.proofs.Books.{same-book}
 use Rattle.pool.proofs.Changes.{put-tied, put-each, put-pages, put-reading, put-updating}
-use Rattle.pool.proofs.Doings.{did-refused, no_turn, says-accepted, next-accepted}
+use Rattle.pool.proofs.Doings.{did-refused, exit_refused, no_turn, says-accepted, next-accepted}
 use Rattle.pool.proofs.Places.{at_here, some-none}
 use Rattle.pool.proofs.Standing.{stands_at}
 use Rattle.pool.proofs.Storing.{over-over}
@@ -77,8 +77,8 @@ module _ {D P : Type 0} {d : device.Ghosts D} {p : policy.Ghosts P} where
     apart = λ q h. ap (λ x. d.row x q) dev;
   }
 
-  pub copy_refused : (pool : Pool D P d p) (t : Ticket) (offset : ℕ) (old : List ℕ) (e : Refusal) → is_granted (book pool) t.kind t.mark t.page ≡ Some e → DidCopy pool t offset old (Err e) old
-  copy_refused pool t offset old e h = record { did = did-refused pool (Read t offset (length old)) e (first_no_lem _ _ e h); buffer = λ x. refl }
+  pub copy_refused : (pool : Pool D P d p) (t : Ticket) (offset : ℕ) (old : List ℕ) (r : Result (Unit {0}) Refusal) (e : Refusal) → IsErrAnd r (λ y. y ≡ e) → is_granted (book pool) t.kind t.mark t.page ≡ Some e → DidCopy pool t offset old r old
+  copy_refused pool t offset old r e h why = record { did = exit_refused pool (Read t offset (length old)) (λ x. copied x old) (λ x. refl) r e h (first_no_lem _ _ e why); buffer = λ x. refl }
 
   pub did_copy : (pool : Pool D P d p) (t : Ticket) (offset : ℕ) (old new : List ℕ) (r : Result (Unit {0}) Refusal) (i : ℕ) → is_granted (book pool) t.kind t.mark t.page ≡ None → i < pool.frames.used → page_in (frame pool.frames i) ≡ t.page → r ≡ fits offset (length old) → new ≡ taken (frame pool.frames i) offset old → DidCopy pool t offset old r new
   did_copy pool t offset old new r i grant low page ans buf =
@@ -164,9 +164,6 @@ over-written f offset new o few x =
     ]
 
 module _ {D P : Type 0} {d : device.Ghosts D} {p : policy.Ghosts P} where
-  pub unfix_refused : (pool : Pool D P d p) (t : Ticket) (e : Refusal) → is_granted (book pool) t.kind t.mark t.page ≡ Some e → Did pool (Unfix t) (Refused e) pool
-  unfix_refused pool t e h = did-refused pool (Unfix t) e (first_no_lem _ _ e h)
-
   -- one grant less leaves the parts together
   pub unpinned_kept : (pool : Pool D P d p) (kind : Kind) (i : ℕ) (fs : Frames) → i < pool.frames.used → fs.used ≡ pool.frames.used → ((j : ℕ) → frame fs j ≡ with (frame pool.frames) i (with_slot (frame pool.frames i) (unpinned kind (frame pool.frames i).slot)) j) → Kept pool fs
   unpinned_kept pool kind i fs low used is =
@@ -207,9 +204,6 @@ module _ {D P : Type 0} {d : device.Ghosts D} {p : policy.Ghosts P} where
       let row = d.row pool.device in
       let w = over-written f offset new (row (page_in f)) few (stands_at n F row _ _ pool.tied i (page_in f) low refl) in
       (put-tied n F i (overwritten f offset new) fs.used (frame fs) used low pool.tied.once w.1 is row row _ _ _ _ pool.tied w.0 (λ k ne. refl) (λ k. refl) refl, pool.counts)
-
-  pub write-refused : (pool : Pool D P d p) (mark page offset : ℕ) (bytes : List ℕ) (e : Refusal) → is_granted (book pool) Updating mark page ≡ Some e → Did pool (Write mark page offset bytes) (Refused e) pool
-  write-refused pool mark page offset bytes e h = did-refused pool (Write mark page offset bytes) e (first_no_lem _ _ e h)
 
   write-accepted : (pool : Pool D P d p) (mark page offset : ℕ) (new : List ℕ) (i : ℕ) (fs : Frames) (kept : Kept pool fs) → is_granted (book pool) Updating mark page ≡ None → i < pool.frames.used → page_in (frame pool.frames i) ≡ page → 0 < (frame pool.frames i).slot.updaters → leb (offset + length new) 512 ≡ true → fs.used ≡ pool.frames.used → ((j : ℕ) → frame fs j ≡ with (frame pool.frames) i (changed_by (frame pool.frames i) offset new) j) → Did pool (Write mark page offset new) Done (reframed pool fs kept)
   write-accepted pool mark page offset new i fs kept grant low here few fit used is =

@@ -39,8 +39,8 @@ abbrev pub given : {K : Type 0} → ℕ → ℕ → Grant K
 given mark page = record { mark = mark; page = page; spent = false; purpose = record {} }
 
 abbrev pub Gives : {G : Type 0} → Result G Refusal → G → Type 0
-Gives (Ok g) given = g ≡ given
-Gives (Err e) given = Unit {0}
+Gives (Ok g) x = g ≡ x
+Gives (Err e) x = Unit {0}
 
 -- Whether a call may reach the device, and the pages that it may write there: a fix the page that
 -- leaves, which was resident and is no more; a flush its page; flush-all and close every page.

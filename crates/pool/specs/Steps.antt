@@ -46,10 +46,11 @@ abbrev pub Vacated : ℕ → (ℕ → Frame) → (bound i : ℕ) → Option ℕ 
 Vacated n F bound i None = (i ≡ n) × (n < bound)
 Vacated n F bound i (Some q) = (i < n) × (page_in (F i) ≡ q) × (pins (F i).slot ≡ 0)
 
--- The place of a vacancy is one.
+-- The place of a vacancy is such a one.
 abbrev pub Placed : {D P : Type 0} {d : device.Ghosts D} {p : policy.Ghosts P} → Pool D P d p → Vacancy → Type 0
 Placed {p = p} pool v = Vacated pool.frames.used (frame pool.frames) (p.bound (p.model pool.policy)) v.place.index v.leaving
 
+-- A vacancy at a time: the page that leaves is the policy's choice.
 pub record Vacant {D P : Type 0} {d : device.Ghosts D} {p : policy.Ghosts P} (pool : Pool D P d p) (t : ℕ) (v : Vacancy) : Type 0 where
   pub leaving : v.leaving ≡ leaving_of p (p.model pool.policy) (idle pool.frames.used (frame pool.frames)) t
   pub place : Placed pool v

@@ -21,14 +21,11 @@ impl<D: Device, P: Policy> Pool<D, P> {
                 leaving: None,
             });
         }
-        let mut list = [0; 64];
-        let n = self.frames.idle(&mut list);
-        let Some(page) = self.policy.choose(&list[0..n], t) else {
+        let idle = self.frames.idle();
+        let Some(page) = self.policy.choose(&idle, t) else {
             return None;
         };
-        let Some(place) = self.frames.find(page) else {
-            return None;
-        };
+        let place = self.frames.find(page)?;
         Some(Vacancy {
             place,
             leaving: Some(page),

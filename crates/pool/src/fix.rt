@@ -13,6 +13,9 @@ use device::Device;
 use page::{Refusal, State};
 use policy::Policy;
 
+// A page may have this many grants out, of both kinds together.
+const MOST_PINS: u32 = 255;
+
 impl<D: Device, P: Policy> Pool<D, P> {
     // The questions of a fix up to the clock.
     fn ask(&self, kind: Kind, page: u32) -> Result<(), Refusal>
@@ -24,7 +27,7 @@ impl<D: Device, P: Policy> Pool<D, P> {
             (State::Worn(origin), Kind::Updating) => return Err(Refusal::WornPage(origin)),
             (_, _) => {}
         }
-        if self.clock >= 4294967295 {
+        if self.is_full() {
             return Err(Refusal::ClockFull);
         }
         Ok(())
@@ -37,15 +40,13 @@ impl<D: Device, P: Policy> Pool<D, P> {
         self.ask(kind, page)?;
         let t = self.clock + 1;
         if let Some(place) = self.frames.find(page) {
-            if self.frames.slot(place).pins() >= 255 {
+            if self.frames.slot(place).pins() >= MOST_PINS {
                 return Err(Refusal::PageFull);
             }
             self.take(kind, place, page, t);
             return Ok(());
         }
-        let Some(vacancy) = self.room(t) else {
-            return Err(Refusal::NoFrame);
-        };
+        let vacancy = self.room(t).ok_or(Refusal::NoFrame)?;
         self.fetch(kind, vacancy, page, t);
         Ok(())
     }

@@ -17,10 +17,9 @@ impl<D: Device, P: Policy> Pool<D, P> {
         if page >= self.device.count() {
             return Err(Refusal::NoSuchPage);
         }
-        let Some(place) = self.frames.find(page) else {
-            return Ok(());
-        };
-        self.write_back(place);
+        if let Some(place) = self.frames.find(page) {
+            self.write_back(place);
+        }
         Ok(())
     }
 
@@ -28,29 +27,29 @@ impl<D: Device, P: Policy> Pool<D, P> {
     fn settle(&mut self, index: usize)
         ensures { (first : Pool D P D.Device P.Policy) → DidSettle first index self.old → DidSettle first (index + 1) self.new }
     {
-        let Some(place) = self.frames.nth(index) else {
-            return;
-        };
-        self.write_back(place);
+        if let Some(place) = self.frames.nth(index) {
+            self.write_back(place);
+        }
     }
 
     // Writes every page back that is in a frame and was changed.
     pub fn flush_all(&mut self)
         ensures { Did self.old FlushAll Done self.new }
     {
+        // Each step has the whole pool to itself, so that the loop can lend no frame, but only tell its number.
         for i in 0..64 {
             self.settle(i);
         }
     }
 
     // Writes all back and hands the device out.
-    pub fn close(self) -> D
+    pub fn close(mut self) -> D
     where
         P: Drop,
         ensures { DidClose self result }
     {
-        let mut pool = self;
-        pool.flush_all();
+        self.flush_all();
+        // A value that is not to be let go is taken apart by all its fields.
         let Pool {
             device,
             policy: _,
@@ -59,7 +58,7 @@ impl<D: Device, P: Policy> Pool<D, P> {
             clock: _,
             hits: _,
             fetches: _,
-        } = pool;
+        } = self;
         device
     }
 

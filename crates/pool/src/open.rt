@@ -10,11 +10,10 @@ use policy::Policy;
 
 impl<D: Device, P: Policy> Pool<D, P> {
     // Opens a pool over a device: the policy is restarted, all frames are free, and the clock is 0.
-    pub fn open(device: D, policy: P, mark: u32) -> Pool<D, P>
+    pub fn open(device: D, mut policy: P, mark: u32) -> Pool<D, P>
         ensures opened { DidOpen device policy mark result }
         ensures promised { Promised (sight result) }
     {
-        let mut policy = policy;
         policy.restart();
         Pool {
             device,
@@ -62,6 +61,6 @@ impl<D: Device, P: Policy> Pool<D, P> {
     pub fn is_full(&self) -> bool
         ensures { result ≡ nat_le 4294967295 self.now.clock }
     {
-        self.clock >= 4294967295
+        self.clock == u32::MAX
     }
 }

@@ -15,9 +15,7 @@ impl<D: Device, P: Policy> Pool<D, P> {
     fn granted<K: Purpose>(&self, grant: &Grant<K>) -> Result<Place, Refusal>
         ensures { Out self.now (ticket K.Purpose grant.now) result }
     {
-        let Some(place) = self.frames.find(grant.page) else {
-            return Err(Refusal::NotGranted);
-        };
+        let place = self.frames.find(grant.page).ok_or(Refusal::NotGranted)?;
         if grant.mark != self.mark || self.frames.slot(place).pins_of(K::KIND) == 0 {
             return Err(Refusal::NotGranted);
         }
@@ -46,13 +44,13 @@ impl<D: Device, P: Policy> Pool<D, P> {
     }
 
     // Gives a grant back. The grant is spent, whether it is accepted or refused.
-    pub fn unfix<K: Purpose>(&mut self, grant: Grant<K>) -> Result<(), Refusal>
+    pub fn unfix<K: Purpose>(&mut self, mut grant: Grant<K>) -> Result<(), Refusal>
         ensures { Did self.old (Unfix (ticket K.Purpose grant)) (done result) self.new }
     {
-        let mut grant = grant;
         grant.spent = true;
+        let kind = K::KIND;
         let place = self.granted(&grant)?;
-        self.frames.unpin(place, K::KIND);
+        self.frames.unpin(place, kind);
         Ok(())
     }
 }

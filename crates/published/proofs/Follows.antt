@@ -6,7 +6,7 @@ use Rattle.policy.specs.Sets.{member, Chosen}
 use Rattle.policy.specs.declared.outcome.Outcome.{Outcome}
 use Rattle.policy.specs.declared.outcome.Outcome.TheVariants.{Hit, Fetch}
 use Rattle.policy.specs.declared.policy.Policy as policy
-use Rattle.two_q.proofs.Counts.{by_bool}
+use Rattle.recency.proofs.Pages.{by_bool}
 use Rattle.device.specs.Row.{Row}
 use Rattle.book.specs.Book.{Book, opened, grants, held, refusal, next}
 use Rattle.book.specs.Call.{Call, Answer}

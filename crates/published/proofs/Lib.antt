@@ -4,7 +4,6 @@ pub mod Follows
 pub mod LruTwoSteps
 pub mod LruTwoWhole
 pub mod Rooms
-pub mod Tallies
 pub mod TwoQAll
 pub mod TwoQSteps
 pub mod TwoQWhole

@@ -1,6 +1,6 @@
 -- One accepted fix of a pool under LRU-2 is one reference of LRU-2 among the free pages.
 use Rattle.std.proofs.Common.{◌≡◌, ℕ, ◌+◌, ◌<◌, ◌≤◌, Bool, true, false, cond, ltb, List, length, Some, None, Option, sym, refl, ap, ◌∙◌, subst, arith, ltb-false, ltb-true}
-use Rattle.std.specs.Option.{option_map}
+use Rattle.std.specs.Option.{option_map, option_or}
 use Rattle.std.proofs.lemmas.List.{length-map}
 use Rattle.policy.specs.Frames.{InRange}
 use Rattle.policy.specs.Runs.{left_by, Standing}
@@ -9,15 +9,16 @@ use Rattle.policy.specs.declared.outcome.Outcome.{Outcome}
 use Rattle.policy.specs.declared.outcome.Outcome.TheVariants.{Hit, Fetch}
 use Rattle.blocks.specs.declared.block.Block.{Block}
 use Rattle.blocks.specs.Blocks.{candidate}
-use Rattle.blocks.proofs.Counts.{by_bool}
+use Rattle.recency.proofs.Pages.{by_bool}
+use Rattle.policy.proofs.Counts.{once-distinct}
 use Rattle.lru_two.specs.AsPrinted.{block_of, of_state}
-use Rattle.lru_two.specs.Model.{Model, resident, size, touched, or_else, chosen, admitted}
+use Rattle.lru_two.specs.Model.{Model, resident, size, touched, chosen, admitted}
 use Rattle.lru_two.specs.Of.{lru_two}
 use Rattle.lru_two.specs.Printed.{State, uncorrelated, updated, scan, Referred, hit, miss, listed}
 use Rattle.lru_two.proofs.Picks.{choice, choice-right}
-use Rattle.lru_two.proofs.References.{touched_is, admitted_is}
+use Rattle.lru_two.proofs.References.{left-fetch, touched_is, admitted_is}
 use Rattle.lru_two.proofs.Shown.{pages_of}
-use Rattle.lru_two.proofs.Sounds.{once-distinct, Sound, updated-sound, Drops, fetched-sound}
+use Rattle.lru_two.proofs.Sounds.{Sound, updated-sound, Drops, fetched-sound}
 use Rattle.lru_two.proofs.Victims.{scan_of, pages-either}
 use Rattle.turns.specs.Turns.{Course, outcome_of, after}
 use Rattle.published.specs.Fixings.{Fixing}
@@ -38,7 +39,7 @@ chosen-among frames crp s t l free old h =
     let far : ℕ → Bool = λ q. cond (free q) (uncorrelated crp s t q) false in
     let a = scan_of s t old (candidate l (Some crp) t) far None s.buffer (λ x m. ap (λ (b : Bool). cond b (uncorrelated crp s t x) false) (h x m)) in
     let c = scan_of s t old (candidate l None t) free None s.buffer (λ x m. ap (λ (b : Bool). cond b true false) (h x m) ∙ either-one (free x)) in
-    (λ i. option_map (λ (b : Block). b.page) (or_else (a i) (c i))) ∙ pages-either s t old (scan s t far None s.buffer) (scan s t free None s.buffer)
+    (λ i. option_map (λ (b : Block). b.page) (option_or (a i) (c i))) ∙ pages-either s t old (scan s t far None s.buffer) (scan s t free None s.buffer)
 
 -- the model after an outcome
 abbrev pub model_after : Model → ℕ → ℕ → Outcome → Model
@@ -48,10 +49,6 @@ model_after m x t (Fetch out) = admitted m x out t
 after_is : (c : Course Model) (x t : ℕ) (o : Outcome) → (after lru_two c x t o).model ≡ model_after c.model x t o
 after_is c x t Hit = refl
 after_is c x t (Fetch out) = refl
-
-left-fetch : (o : Option ℕ) → left_by (Fetch o) ≡ listed o
-left-fetch None = refl
-left-fetch (Some x) = refl
 
 -- a model and an outcome are what a reference at the time n came to
 pub record Came (frames crp n : ℕ) (m' : Model) (o : Outcome) (a : Referred) : Type 0 where

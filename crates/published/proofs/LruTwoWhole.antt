@@ -4,6 +4,7 @@ use Rattle.std.proofs.lemmas.List.{append-nil, length-map}
 use Rattle.policy.specs.Frames.{InRange}
 use Rattle.policy.specs.Runs.{hit_by, hits, fetches, left_by, left}
 use Rattle.policy.specs.declared.outcome.Outcome.{Outcome}
+use Rattle.policy.proofs.Tallies.{hit_of, fetch_of}
 use Rattle.lru_two.specs.AsPrinted.{block_of, of_state}
 use Rattle.lru_two.specs.Model.{Model, size, empty}
 use Rattle.lru_two.specs.Of.{lru_two}
@@ -21,7 +22,6 @@ use Rattle.published.proofs.AtOnces.{unheld, Idle, at_once_lem}
 use Rattle.published.proofs.Follows.{Follows, Beside, beside-opened, follows}
 use Rattle.published.proofs.Follows.Follows.{start, fix}
 use Rattle.published.proofs.LruTwoSteps.{right, fix-came}
-use Rattle.published.proofs.Tallies.{hit_by_lem, fetch_by}
 
 -- what accepted fixes do, from where a run stands, the first at the time n + 1
 pub record Ran (frames crp n : ℕ) (r : Run) (fs : List Fixing) (os : List Outcome) (y : Course Model) : Type 0 where
@@ -44,8 +44,8 @@ ran frames crp range r e s (fix {n = n} {x = x} {y = y} {f = f} {fs = fs} {o = o
       few = w.few;
       came = λ i. oe i ∷ w.came i;
       left = w.left ∙ append_assoc r.left (listed a.out) (left os) ∙ ap (λ (p : List ℕ). r.left ++ (p ++ left os)) (sym (ap left_by oe ∙ c.left));
-      hits = (let k = w.hits in let z : cond (hit_by o) 1 0 ≡ cond a.fetched 0 1 = ap (λ (u : Outcome). cond (hit_by u) 1 0) oe ∙ hit_by_lem a.fetched a.out in omega arith);
-      fetches = (let k = w.fetches in let z : cond (hit_by o) 0 1 ≡ cond a.fetched 1 0 = ap (λ (u : Outcome). cond (hit_by u) 0 1) oe ∙ fetch_by a.fetched a.out in omega arith);
+      hits = (let k = w.hits in let z : cond (hit_by o) 1 0 ≡ cond a.fetched 0 1 = ap (λ (u : Outcome). cond (hit_by u) 1 0) oe ∙ hit_of a.fetched a.out in omega arith);
+      fetches = (let k = w.fetches in let z : cond (hit_by o) 0 1 ≡ cond a.fetched 1 0 = ap (λ (u : Outcome). cond (hit_by u) 0 1) oe ∙ fetch_of a.fetched a.out in omega arith);
     }
 
 -- where every page is free, LRU-2 among the free pages is LRU-2 as printed

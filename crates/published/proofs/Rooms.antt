@@ -1,22 +1,23 @@
 -- As long as fewer pages than frames have a grant out, a full set of pages has a free one.
 use Rattle.std.proofs.Common.{◌≡◌, ℕ, zero, suc, ◌<◌, ◌≤◌, Bool, true, false, cond, eqb, ltb, ◌⊎◌, List, [], ◌∷◌, length, Some, None, Option, sym, refl, ap, ◌∙◌, inl, inr, ⊎_elim, arith, lt-ltb, eq-eqb}
 use borrow.Author.Tests.{eqb-false}
+use Rattle.std.proofs.lemmas.List.{map-id}
 use Rattle.std.proofs.lemmas.Bool.{false≢true}
 use Rattle.std.proofs.lemmas.Bool.Decides.{nat_tests}
 use Rattle.policy.specs.Sets.{member, distinct, Counted, Chosen}
 use Rattle.two_q.specs.Lists.{less}
-use Rattle.two_q.proofs.Counts.{by_bool, length-less, member-less}
+use Rattle.recency.proofs.Pages.{by_bool}
+use Rattle.policy.proofs.Counts as counts
+use Rattle.policy.proofs.Counts.{length-less}
 use Rattle.book.specs.Book.{Book, grants, held, held_below}
 use Rattle.turns.specs.Turns.{free}
 use Rattle.published.specs.Fixings.{Fixing}
 
 distinct-less : (p : ℕ) (xs : List ℕ) → distinct xs ≡ true → distinct (less p xs) ≡ true
-distinct-less p [] h = refl
-distinct-less p (x ∷ xs) h = let i = distinct-less p xs in let j = member-less x p xs in grind (arith, nat_tests)
+distinct-less p xs h = ap distinct (sym (map-id (less p xs))) ∙ counts.distinct-less (λ (x : ℕ). x) p xs (ap distinct (map-id xs) ∙ h)
 
 out-distinct : (p r : ℕ) (xs : List ℕ) → distinct xs ≡ true → member r (less p xs) ≡ cond (eqb p r) false (member r xs)
-out-distinct p r [] h = grind (arith, nat_tests)
-out-distinct p r (x ∷ xs) h = let i = out-distinct p r xs in grind (arith, nat_tests)
+out-distinct p r xs h = ap (member r) (sym (map-id (less p xs))) ∙ counts.out-distinct (λ (x : ℕ). x) p r xs (ap distinct (map-id xs) ∙ h) ∙ ap (λ (ys : List ℕ). cond (eqb p r) false (member r ys)) (map-id xs)
 
 -- pages that are below n and have a grant out, each once, are no more than are held
 held-most : (b : Book) (n : ℕ) (xs : List ℕ) → distinct xs ≡ true → ((q : ℕ) → member q xs ≡ true → (q < n) × (0 < grants b q)) → length xs ≤ held_below n b

@@ -8,7 +8,7 @@ use Rattle.two_q.specs.Lists.{less}
 use Rattle.two_q.specs.Of.{two_q}
 use Rattle.two_q.specs.Printed.{Queues, Kin, tail_of, untailed, remembered, Reclaimed, reclaimfor, Accessed, found, onto_am, onto_ain, access, Run, tallied, run_from}
 use Rattle.two_q.proofs.Accesses as printed
-use Rattle.two_q.proofs.Counts.{by_bool}
+use Rattle.recency.proofs.Pages.{by_bool}
 use Rattle.two_q.proofs.Sounds.{Sound, kept-sound, forgotten-sound}
 use Rattle.two_q.proofs.Tails.{some-tail, tail-nearest, less-tail}
 use Rattle.published.specs.TwoQAmong.{nearest, off_ain, off_am, with, reclaim_among, access_among, run_among, came_to, outcomes}

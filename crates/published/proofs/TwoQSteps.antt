@@ -1,22 +1,27 @@
 -- One accepted fix of a pool under 2Q is one access of 2Q among the free pages.
 use Rattle.std.proofs.Common.{◌≡◌, ℕ, ◌≤◌, Bool, true, false, cond, eqb, ltb, List, [], ◌∷◌, length, Some, None, Option, sym, refl, ap, ◌∙◌, subst, arith, ltb-false, ltb-true, eq-eqb}
+use Rattle.std.specs.Option.{option_or}
+use Rattle.recency.proofs.Pages.{by_bool}
+use Rattle.policy.specs.Once.{not_counted}
 use Rattle.policy.specs.Runs.{left_by}
+use Rattle.policy.proofs.Admissions.{Leaves}
+use Rattle.policy.proofs.Counts.{none-less, member-counted}
 use Rattle.policy.specs.Sets.{member, Chosen}
 use Rattle.policy.specs.declared.outcome.Outcome.{Outcome}
 use Rattle.policy.specs.declared.outcome.Outcome.TheVariants.{Hit, Fetch}
 use Rattle.two_q.specs.AsPrinted.{of_queues}
-use Rattle.two_q.specs.Lists.{less, or_else, nearest_tail}
+use Rattle.two_q.specs.Lists.{less, nearest_tail}
 use Rattle.two_q.specs.Model.{Model, resident, size, touched, chosen, forgotten, gone, come, admitted}
 use Rattle.two_q.specs.Of.{two_q}
 use Rattle.two_q.specs.Printed.{Queues, Kin, Kout, put, Reclaimed, Accessed, found, onto_am, onto_ain}
-use Rattle.two_q.proofs.Counts.{by_bool, gone-a1in, gone_am}
+use Rattle.two_q.proofs.Accesses.{left-fetch}
+use Rattle.two_q.proofs.Counts.{gone-a1in, gone_am}
 use Rattle.two_q.proofs.Laws.{chosen-right}
 use Rattle.two_q.proofs.Models.{models}
-use Rattle.two_q.proofs.Pages.{none-moved, none-less}
+use Rattle.two_q.proofs.Pages.{none-moved}
 use Rattle.two_q.proofs.Reclaims.{Same}
-use Rattle.two_q.proofs.Sounds.{Sound, kept-sound, touched-sound, forgotten-sound, Leaves, admitted-sound}
-use Rattle.two_q.proofs.Tails.{member-counted, take-cut}
-use Rattle.two_q.specs.Once.{not_counted}
+use Rattle.two_q.proofs.Sounds.{Sound, kept-sound, touched-sound, forgotten-sound, admitted-sound}
+use Rattle.two_q.proofs.Tails.{take-cut}
 use Rattle.turns.specs.Turns.{Course, outcome_of, after}
 use Rattle.published.specs.Fixings.{Fixing}
 use Rattle.published.specs.TwoQAmong.{nearest, none, off_ain, off_am, with, reclaim_among, access_among, came_to}
@@ -38,13 +43,13 @@ nearest-same l free [] h = refl
 nearest-same l free (x ∷ xs) h =
     let here = h x (itself x xs) in
     let rest = nearest-same l free xs (λ r k. h r (later x r xs k)) in
-    λ i. or_else (rest i) (cond (here i) (Some x) None)
+    λ i. option_or (rest i) (cond (here i) (Some x) None)
 
 nearest-member : (free : ℕ → Bool) (xs : List ℕ) (y : ℕ) → nearest free xs ≡ Some y → member y xs ≡ true
 nearest-member free [] y e = let z : ◌≡◌ {A = ℕ} 0 1 = cc in absurd (omega arith)
 nearest-member free (x ∷ xs) y e = step (nearest free xs) (free x) refl e (nearest-member free xs y)
   where
-    step : (o : Option ℕ) (b : Bool) → nearest free xs ≡ o → or_else o (cond b (Some x) None) ≡ Some y → (nearest free xs ≡ Some y → member y xs ≡ true) → member y (x ∷ xs) ≡ true
+    step : (o : Option ℕ) (b : Bool) → nearest free xs ≡ o → option_or o (cond b (Some x) None) ≡ Some y → (nearest free xs ≡ Some y → member y xs ≡ true) → member y (x ∷ xs) ≡ true
     step (Some z) b u k f = later x y xs (f (u ∙ k))
     step None true u k f = let s : x ≡ y = cc in subst (λ (z : ℕ). member z (x ∷ xs) ≡ true) s (itself x xs)
     step None false u k f = let z : ◌≡◌ {A = ℕ} 0 1 = cc in absurd (omega arith)
@@ -73,12 +78,12 @@ module _ (slots : ℕ) (q : Queues) (listed : List ℕ) (free : ℕ → Bool) (s
   from_am : (y : ℕ) → nearest free q.am ≡ Some y → Same slots m (Some y) (off_am q y)
   from_am y e = record { out = refl; lists = gone_am m y (nearest-member free q.am y e) }
 
-  ain-first : (o u : Option ℕ) → nearest free q.ain ≡ o → nearest free q.am ≡ u → Same slots m (or_else o u) (with o (off_ain slots q) (with u (off_am q) (none q)))
+  ain-first : (o u : Option ℕ) → nearest free q.ain ≡ o → nearest free q.am ≡ u → Same slots m (option_or o u) (with o (off_ain slots q) (with u (off_am q) (none q)))
   ain-first (Some y) u e f = from_ain y e
   ain-first None (Some y) e f = from_am y f
   ain-first None None e f = record { out = refl; lists = refl }
 
-  am_first : (o u : Option ℕ) → nearest free q.am ≡ o → nearest free q.ain ≡ u → Same slots m (or_else o u) (with o (off_am q) (with u (off_ain slots q) (none q)))
+  am_first : (o u : Option ℕ) → nearest free q.am ≡ o → nearest free q.ain ≡ u → Same slots m (option_or o u) (with o (off_am q) (with u (off_ain slots q) (none q)))
   am_first (Some y) u e f = from_am y e
   am_first None (Some y) e f = from_ain y f
   am_first None None e f = record { out = refl; lists = refl }
@@ -90,11 +95,11 @@ module _ (slots : ℕ) (q : Queues) (listed : List ℕ) (free : ℕ → Bool) (s
   prefer_am = with (nearest free q.am) (off_am q) (with (nearest free q.ain) (off_ain slots q) (none q))
 
   by_tests : (room more : Bool) →
-      Same slots m (cond room None (cond more (or_else (nearest_tail listed q.ain) (nearest_tail listed q.am)) (or_else (nearest_tail listed q.am) (nearest_tail listed q.ain))))
+      Same slots m (cond room None (cond more (option_or (nearest_tail listed q.ain) (nearest_tail listed q.am)) (option_or (nearest_tail listed q.am) (nearest_tail listed q.ain))))
       (cond room (none q) (cond more prefer_ain prefer_am))
   by_tests true more = record { out = refl; lists = refl }
-  by_tests false true = subst (λ (o : Option ℕ). Same slots m o prefer_ain) (λ i. or_else (sym ain-near i) (sym am_near i)) (ain-first (nearest free q.ain) (nearest free q.am) refl refl)
-  by_tests false false = subst (λ (o : Option ℕ). Same slots m o prefer_am) (λ i. or_else (sym am_near i) (sym ain-near i)) (am_first (nearest free q.am) (nearest free q.ain) refl refl)
+  by_tests false true = subst (λ (o : Option ℕ). Same slots m o prefer_ain) (λ i. option_or (sym ain-near i) (sym am_near i)) (ain-first (nearest free q.ain) (nearest free q.am) refl refl)
+  by_tests false false = subst (λ (o : Option ℕ). Same slots m o prefer_am) (λ i. option_or (sym am_near i) (sym ain-near i)) (am_first (nearest free q.am) (nearest free q.ain) refl refl)
 
   reclaims : Same slots m (cond (ltb (size m) slots) None (chosen m listed)) (reclaim_among slots free q)
   reclaims = by_tests (ltb (size m) slots) (ltb (Kin slots) (length q.ain))
@@ -115,10 +120,6 @@ pub record Came (slots : ℕ) (m' : Model) (o : Outcome) (a : Accessed) : Type 0
   pub left : left_by (came_to a) ≡ put a.out []
   pub sound : Sound m'
 
-left-fetch : (o : Option ℕ) → left_by (Fetch o) ≡ put o []
-left-fetch None = refl
-left-fetch (Some x) = refl
-
 module _ (slots : ℕ) (q : Queues) (f : Fixing) (t : ℕ) (listed : List ℕ) (s : Sound (of_queues slots q)) (exact : (r : ℕ) → member r listed ≡ cond (resident (of_queues slots q) r) (f.free r) false) (some : SomeFree slots (resident (of_queues slots q)) f) where
   abbrev n : Model
   n = of_queues slots q
@@ -129,16 +130,16 @@ module _ (slots : ℕ) (q : Queues) (f : Fixing) (t : ℕ) (listed : List ℕ) (
   abbrev out : Option ℕ
   out = cond (ltb (size n) slots) None (chosen n listed)
 
-  leaves-chosen : resident n x ≡ false → slots ≤ size n → Leaves n (chosen n listed)
+  leaves-chosen : resident n x ≡ false → slots ≤ size n → Leaves (resident n) (size n) n.bound (chosen n listed)
   leaves-chosen away full =
       let y = chosen-one (resident n) f.free listed (chosen n listed) exact (some away (size n) (kept-sound n s).counted full) (chosen-right n listed) in
-      subst (Leaves n) (sym y.1) y.2
+      subst (Leaves (resident n) (size n) n.bound) (sym y.1) y.2
 
-  leaves_by : resident n x ≡ false → Leaves n out
+  leaves_by : resident n x ≡ false → Leaves (resident n) (size n) n.bound out
   leaves_by away =
       by_bool (ltb (size n) slots)
-      (λ e. subst (Leaves n) (sym (ap (λ (b : Bool). cond b None (chosen n listed)) e)) (ltb-true (size n) slots e))
-      (λ e. subst (Leaves n) (sym (ap (λ (b : Bool). cond b None (chosen n listed)) e)) (leaves-chosen away (ltb-false (size n) slots e)))
+      (λ e. subst (Leaves (resident n) (size n) n.bound) (sym (ap (λ (b : Bool). cond b None (chosen n listed)) e)) (ltb-true (size n) slots e))
+      (λ e. subst (Leaves (resident n) (size n) n.bound) (sym (ap (λ (b : Bool). cond b None (chosen n listed)) e)) (leaves-chosen away (ltb-false (size n) slots e)))
 
   did-hit : (q' : Queues) → touched n x ≡ of_queues slots q' → Came slots (touched n x) Hit (found q')
   did-hit q' e = record { lists = e; outcome = refl; left = refl; sound = touched-sound n x s }

@@ -3,6 +3,7 @@ use Rattle.std.proofs.Common.{◌≡◌, ℕ, ◌+◌, ◌≤◌, cond, List, []
 use Rattle.std.proofs.lemmas.List.{append-nil}
 use Rattle.policy.specs.Runs.{hit_by, hits, fetches, left_by, left}
 use Rattle.policy.specs.declared.outcome.Outcome.{Outcome}
+use Rattle.policy.proofs.Tallies.{hit_of, fetch_of}
 use Rattle.two_q.specs.AsPrinted.{of_queues}
 use Rattle.two_q.specs.Model.{Model, size, empty as no_page}
 use Rattle.two_q.specs.Of.{two_q}
@@ -19,7 +20,6 @@ use Rattle.published.specs.TwoQAmong.{access_among, run_among, published_run, ou
 use Rattle.published.proofs.AtOnces.{Idle, at_once_lem}
 use Rattle.published.proofs.Follows.{Follows, Beside, beside-opened, follows}
 use Rattle.published.proofs.Follows.Follows.{start, fix}
-use Rattle.published.proofs.Tallies.{hit_by_lem, fetch_by}
 use Rattle.published.proofs.TwoQAll.{run-all, outcomes-all}
 use Rattle.published.proofs.TwoQSteps.{right, fix-came}
 
@@ -44,8 +44,8 @@ ran slots r e s (fix {n = n} {x = x} {y = y} {f = f} {fs = fs} {o = o} {os = os}
       sound = w.sound;
       came = λ i. oe i ∷ w.came i;
       left = w.left ∙ append_assoc r.left (put a.out []) (left os) ∙ ap (λ (p : List ℕ). r.left ++ (p ++ left os)) (sym (ap left_by oe ∙ c.left));
-      hits = (let k = w.hits in let z : cond (hit_by o) 1 0 ≡ cond a.fetched 0 1 = ap (λ (u : Outcome). cond (hit_by u) 1 0) oe ∙ hit_by_lem a.fetched a.out in omega arith);
-      fetches = (let k = w.fetches in let z : cond (hit_by o) 0 1 ≡ cond a.fetched 1 0 = ap (λ (u : Outcome). cond (hit_by u) 0 1) oe ∙ fetch_by a.fetched a.out in omega arith);
+      hits = (let k = w.hits in let z : cond (hit_by o) 1 0 ≡ cond a.fetched 0 1 = ap (λ (u : Outcome). cond (hit_by u) 1 0) oe ∙ hit_of a.fetched a.out in omega arith);
+      fetches = (let k = w.fetches in let z : cond (hit_by o) 0 1 ≡ cond a.fetched 1 0 = ap (λ (u : Outcome). cond (hit_by u) 0 1) oe ∙ fetch_of a.fetched a.out in omega arith);
     }
 
 abbrev nothing : Run

@@ -1,17 +1,18 @@
 -- Full 2Q where only some pages may leave: as the printed algorithm, but for the page that is paged
 -- out, which is a free one.
 use Rattle.std.specs.Prelude.{ℕ, ◌+◌, Bool, cond, List, [], ◌∷◌, length, Some, None, Option, nat_lt}
+use Rattle.std.specs.Option.{option_or}
 use Rattle.policy.specs.Sets.{member}
 use Rattle.policy.specs.declared.outcome.Outcome.{Outcome}
 use Rattle.policy.specs.declared.outcome.Outcome.TheVariants.{Hit, Fetch}
-use Rattle.two_q.specs.Lists.{less, or_else}
+use Rattle.two_q.specs.Lists.{less}
 use Rattle.two_q.specs.Printed.{Queues, Kin, remembered, Reclaimed, Accessed, found, onto_am, onto_ain, access, Run, tallied, empty}
 use Rattle.published.specs.Fixings.{Fixing}
 
 -- The free page nearest the tail of a queue, or none.
 abbrev pub nearest : (ℕ → Bool) → List ℕ → Option ℕ
 nearest free [] = None
-nearest free (x ∷ xs) = or_else (nearest free xs) (cond (free x) (Some x) None)
+nearest free (x ∷ xs) = option_or (nearest free xs) (cond (free x) (Some x) None)
 
 -- No page is paged out.
 abbrev pub none : Queues → Reclaimed

@@ -4,24 +4,25 @@ use Rattle.policy.specs.Runs.{leaving, swapped, Turn, turn, left_by, Standing}
 use Rattle.policy.specs.Sets.{member, Chosen}
 use Rattle.policy.specs.declared.outcome.Outcome.{Outcome}
 use Rattle.policy.specs.declared.outcome.Outcome.TheVariants.{Hit, Fetch}
+use Rattle.policy.proofs.Admissions.{leaves}
+use Rattle.policy.proofs.Counts.{none-less, member-counted}
 use Rattle.policy.proofs.Turns.{Leaving, accepted, standing-again}
+use Rattle.recency.proofs.Pages.{by_bool}
 use Rattle.two_q.specs.AsPrinted.{of_queues}
 use Rattle.two_q.specs.Lists.{less}
-use Rattle.two_q.specs.Model.{Model, resident, touched, chosen, forgotten, gone, come, admitted}
+use Rattle.two_q.specs.Model.{Model, resident, size, touched, chosen, forgotten, gone, come, admitted}
 use Rattle.two_q.specs.Of.{two_q}
 use Rattle.two_q.specs.Printed.{Queues, put, reclaimfor, Accessed, found, onto_am, onto_ain, access}
-use Rattle.two_q.proofs.Counts.{by_bool}
-use Rattle.two_q.proofs.Laws.{touched-resident, touched-size, chosen-right}
+use Rattle.two_q.proofs.Laws.{touched-resident, touched-size, chosen-right, admitted-resident, admitted-size}
 use Rattle.two_q.proofs.Models.{models}
-use Rattle.two_q.proofs.Pages.{none-moved, none-less}
+use Rattle.two_q.proofs.Pages.{none-moved}
 use Rattle.two_q.proofs.Reclaims.{Same, reclaims}
-use Rattle.two_q.proofs.Sounds.{Sound, kept-sound, touched-sound, forgotten-sound, leaves, admitted-sound, admitted-resident, admitted-size}
-use Rattle.two_q.proofs.Tails.{member-counted}
+use Rattle.two_q.proofs.Sounds.{Sound, kept-sound, touched-sound, forgotten-sound, admitted-sound}
 
 abbrev pub outcome_of : Accessed → Outcome
 outcome_of a = cond a.fetched (Fetch a.out) Hit
 
-left-fetch : (o : Option ℕ) → left_by (Fetch o) ≡ put o []
+pub left-fetch : (o : Option ℕ) → left_by (Fetch o) ≡ put o []
 left-fetch None = refl
 left-fetch (Some x) = refl
 
@@ -67,13 +68,13 @@ module _ (slots : ℕ) (q : Queues) (held : List ℕ) (x t : ℕ) (s : Sound (of
   did-fetch : (a : Accessed) → resident m x ≡ false → admitted m x out ≡ of_queues slots a.queues → Fetch out ≡ outcome_of a → left_by (outcome_of a) ≡ put a.out [] → Did slots fetch a
   did-fetch a away e o w =
       let k = leaves_by away in
-      let l = leaves m x out (accepted two_q m held x t out k) in
+      let l = leaves (resident m) (size m) m.bound x out (accepted two_q m held x t out k) in
       record {
         lists = e;
         outcome = o;
         left = w;
         sound = admitted-sound m x out s away l;
-        standing = standing-again two_q m held x t out (admitted m x out) k (admitted-resident m x out s l) (admitted-size m x out l);
+        standing = standing-again two_q m held x t out (admitted m x out) k (admitted-resident m x out (λ r. omega (arith, s.once r)) l) (admitted-size m x out l);
       }
 
   -- the queues with X taken out of Aout

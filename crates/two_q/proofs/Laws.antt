@@ -2,11 +2,15 @@
 use Rattle.std.proofs.Common.{◌≡◌, ℕ, ◌+◌, ◌<◌, ◌≤◌, Bool, true, false, cond, eqb, ltb, List, [], ◌∷◌, length, Some, None, Option, sym, refl, ap, ◌∙◌, arith, le-ltb, lt-ltb}
 use Rattle.std.proofs.lemmas.Bool.{false≢true}
 use Rattle.std.proofs.lemmas.Bool.Decides.{nat_tests}
-use Rattle.policy.specs.Sets.{member, Chosen, entered, grown}
-use Rattle.two_q.specs.Lists.{count, less, moved, or_else, nearest_tail}
+use Rattle.std.specs.Option.{option_or}
+use Rattle.recency.proofs.Pages.{by_bool}
+use Rattle.policy.specs.Once.{not_counted}
+use Rattle.policy.specs.Sets.{member, count, Chosen, entered, grown}
+use Rattle.policy.proofs.Admissions.{Leaves, turned}
+use Rattle.policy.proofs.Counts.{length-less, out_once}
+use Rattle.two_q.specs.Lists.{less, moved, nearest_tail}
 use Rattle.two_q.specs.Model.{Model, kin, resident, size, touched, chosen, forgotten, gone, come, admitted}
-use Rattle.two_q.specs.Once.{not_counted}
-use Rattle.two_q.proofs.Counts.{by_bool, length-less, length_moved, gone-bound}
+use Rattle.two_q.proofs.Counts.{length_moved, gone-bound}
 
 held-less : (p r : ℕ) (xs : List ℕ) → member p xs ≡ true → cond (eqb p r) true (member r (less p xs)) ≡ member r xs
 held-less p r [] h = absurd (false≢true h)
@@ -22,11 +26,6 @@ touched-resident m p r = rw (member-moved p r m.am)
 pub touched-size : (m : Model) (p : ℕ) → size (touched m p) ≡ size m
 touched-size m p = rw (length_moved p m.am)
 
--- a page that stands at most once is out once it is taken out
-pub out_once : (p r : ℕ) (xs : List ℕ) → count r xs ≤ 1 → member r (less p xs) ≡ cond (eqb p r) false (member r xs)
-out_once p r [] h = grind (arith, nat_tests)
-out_once p r (x ∷ xs) h = let i = out_once p r xs in let z = not_counted r xs in grind (arith, nat_tests)
-
 -- a page that is chosen is in the list and listed
 tail-some : (l xs : List ℕ) (p : ℕ) → nearest_tail l xs ≡ Some p → (member p l ≡ true) × (member p xs ≡ true)
 tail-some l [] p e = let z : ◌≡◌ {A = ℕ} 0 1 = cc in absurd (omega arith)
@@ -38,7 +37,7 @@ tail-some l (x ∷ xs) p e = step (nearest_tail l xs) (member x l) refl refl e (
     here : x ≡ p → member p (x ∷ xs) ≡ true
     here h = grind (arith, nat_tests)
 
-    step : (o : Option ℕ) (b : Bool) → nearest_tail l xs ≡ o → member x l ≡ b → or_else o (cond b (Some x) None) ≡ Some p
+    step : (o : Option ℕ) (b : Bool) → nearest_tail l xs ≡ o → member x l ≡ b → option_or o (cond b (Some x) None) ≡ Some p
         → (nearest_tail l xs ≡ Some p → (member p l ≡ true) × (member p xs ≡ true)) → (member p l ≡ true) × (member p (x ∷ xs) ≡ true)
     step (Some y) b u t q f = let h = f (u ∙ q) in (h.0, later h.1)
     step None true u t q f = let s : x ≡ p = cc in (rw (← s) t, here s)
@@ -52,14 +51,14 @@ tail_none l (x ∷ xs) e r h = step (nearest_tail l xs) (member x l) refl refl e
     all : member x l ≡ false → (member r xs ≡ true → member r l ≡ false) → member r l ≡ false
     all t f = grind (arith, nat_tests)
 
-    step : (o : Option ℕ) (b : Bool) → nearest_tail l xs ≡ o → member x l ≡ b → or_else o (cond b (Some x) None) ≡ None
+    step : (o : Option ℕ) (b : Bool) → nearest_tail l xs ≡ o → member x l ≡ b → option_or o (cond b (Some x) None) ≡ None
         → (nearest_tail l xs ≡ None → (r : ℕ) → member r xs ≡ true → member r l ≡ false) → member r l ≡ false
     step (Some y) b u t q f = let z : ◌≡◌ {A = ℕ} 0 1 = cc in absurd (omega arith)
     step None true u t q f = let z : ◌≡◌ {A = ℕ} 0 1 = cc in absurd (omega arith)
     step None false u t q f = all t (f u r)
 
 pick : (s : ℕ → Bool) (l xs ys : List ℕ) → ((r : ℕ) → s r ≡ cond (member r xs) true (member r ys)) → (o u : Option ℕ)
-    → nearest_tail l xs ≡ o → nearest_tail l ys ≡ u → Chosen s l (or_else o u)
+    → nearest_tail l xs ≡ o → nearest_tail l ys ≡ u → Chosen s l (option_or o u)
 pick s l xs ys h (Some p) u e f = let t = tail-some l xs p e in (t.0, h p ∙ rw t.1)
 pick s l xs ys h None (Some p) e f = let t = tail-some l ys p f in let a = t.1 in let b = h p in (t.0, grind (arith, nat_tests))
 pick s l xs ys h None None e f = λ r t. let a = tail_none l xs e r in let b = tail_none l ys f r in let c = h r in grind (arith, nat_tests)
@@ -98,9 +97,6 @@ come-size : (m : Model) (k : Bool) (p : ℕ) → size (come m k p) ≡ size m + 
 come-size m true p = omega arith
 come-size m false p = omega arith
 
-turned : (p r : ℕ) → eqb p r ≡ eqb r p
-turned p r = grind (arith, nat_tests)
-
 -- an admission puts the page in and the leaving one out
 pub none-resident : (m : Model) (p r : ℕ) → resident (admitted m p None) r ≡ entered (resident m) p None r
 none-resident m p r = come-resident (forgotten m p) (member p m.a1out) p r ∙ rw (turned p r)
@@ -124,9 +120,22 @@ come-bound m false p = refl
 pub some-bound : (m : Model) (p g : ℕ) → (admitted m p (Some g)).bound ≡ m.bound
 some-bound m p g = come-bound (gone (forgotten m p) (Some g)) (member p m.a1out) p ∙ gone-bound (forgotten m p) g
 
--- which list is preferred: `xs` and `ys` are the two lists as they were looked at
-pub prefers_a1in : (m : Model) (l xs ys : List ℕ) (r : Option ℕ) → kin m < length m.a1in → r ≡ or_else (nearest_tail l xs) (nearest_tail l ys) → xs ≡ m.a1in → ys ≡ m.am → r ≡ chosen m l
-prefers_a1in m l xs ys r h e p q = e ∙ (λ i. or_else (nearest_tail l (p i)) (nearest_tail l (q i))) ∙ sym (rw (lt-ltb (kin m) (length m.a1in) h))
+-- the same of a leaving page or none
+pub admitted-resident : (m : Model) (p : ℕ) (l : Option ℕ) → ((r : ℕ) → count r m.am + count r m.a1in ≤ 1) → Leaves (resident m) (size m) m.bound l → (r : ℕ) → resident (admitted m p l) r ≡ entered (resident m) p l r
+admitted-resident m p None o h r = none-resident m p r
+admitted-resident m p (Some q) o h r = some-resident m p q r (o r) h
 
-pub prefers_am : (m : Model) (l xs ys : List ℕ) (r : Option ℕ) → length m.a1in ≤ kin m → r ≡ or_else (nearest_tail l xs) (nearest_tail l ys) → xs ≡ m.am → ys ≡ m.a1in → r ≡ chosen m l
-prefers_am m l xs ys r h e p q = e ∙ (λ i. or_else (nearest_tail l (p i)) (nearest_tail l (q i))) ∙ sym (rw (le-ltb (kin m) (length m.a1in) h))
+pub admitted-size : (m : Model) (p : ℕ) (l : Option ℕ) → Leaves (resident m) (size m) m.bound l → size (admitted m p l) ≡ grown (size m) l
+admitted-size m p None h = none-size m p
+admitted-size m p (Some q) h = some_size m p q h
+
+pub admitted-bound : (m : Model) (p : ℕ) (l : Option ℕ) → (admitted m p l).bound ≡ m.bound
+admitted-bound m p None = come-bound (forgotten m p) (member p m.a1out) p
+admitted-bound m p (Some q) = some-bound m p q
+
+-- which list is preferred: `xs` and `ys` are the two lists as they were looked at
+pub prefers_a1in : (m : Model) (l xs ys : List ℕ) (r : Option ℕ) → kin m < length m.a1in → r ≡ option_or (nearest_tail l xs) (nearest_tail l ys) → xs ≡ m.a1in → ys ≡ m.am → r ≡ chosen m l
+prefers_a1in m l xs ys r h e p q = e ∙ (λ i. option_or (nearest_tail l (p i)) (nearest_tail l (q i))) ∙ sym (rw (lt-ltb (kin m) (length m.a1in) h))
+
+pub prefers_am : (m : Model) (l xs ys : List ℕ) (r : Option ℕ) → length m.a1in ≤ kin m → r ≡ option_or (nearest_tail l xs) (nearest_tail l ys) → xs ≡ m.am → ys ≡ m.a1in → r ≡ chosen m l
+prefers_am m l xs ys r h e p q = e ∙ (λ i. option_or (nearest_tail l (p i)) (nearest_tail l (q i))) ∙ sym (rw (le-ltb (kin m) (length m.a1in) h))

@@ -2,24 +2,25 @@
 -- the lists are then the printed queues.
 use Rattle.std.proofs.Common.{◌≡◌, ℕ, ◌+◌, ◌<◌, ◌≤◌, Bool, true, false, cond, ltb, List, ◌∷◌, length, take, Some, None, Option, sym, refl, ap, ◌∙◌, arith, ltb-false, ltb-true}
 use Rattle.policy.specs.Runs.{leaving, Standing}
+use Rattle.std.specs.Option.{option_or}
+use Rattle.recency.proofs.Pages.{by_bool}
+use Rattle.policy.specs.Once.{not_counted}
 use Rattle.policy.specs.Sets.{member}
+use Rattle.policy.proofs.Counts.{member-counted}
 use Rattle.two_q.specs.AsPrinted.{of_queues}
-use Rattle.two_q.specs.Lists.{count, or_else, nearest_tail}
+use Rattle.two_q.specs.Lists.{nearest_tail}
 use Rattle.two_q.specs.Model.{Model, chosen, gone}
 use Rattle.two_q.specs.Of.{two_q}
 use Rattle.two_q.specs.Printed.{Queues, Kin, Kout, tail_of, untailed, remembered, Reclaimed, reclaimfor}
-use Rattle.two_q.proofs.Counts.{by_bool, gone-a1in, gone_am}
+use Rattle.two_q.proofs.Counts.{gone-a1in, gone_am}
 use Rattle.two_q.proofs.Laws.{prefers_a1in, prefers_am}
 use Rattle.two_q.proofs.Models.{models}
 use Rattle.two_q.proofs.Sounds.{Sound}
-use Rattle.two_q.proofs.Tails.{some-tail, tail-nearest, tail-member, member-counted, less-tail, take-cut}
+use Rattle.two_q.proofs.Tails.{some-tail, tail-nearest, tail-member, less-tail, take-cut}
 
 -- a list's pages that are all listed: its tail is chosen before any page of another list
-chosen-tail : (l xs : List ℕ) (o : Option ℕ) (y : ℕ) → ((r : ℕ) → member r xs ≡ true → member r l ≡ true) → tail_of xs ≡ Some y → or_else (nearest_tail l xs) o ≡ Some y
-chosen-tail l xs o y f e = ap (λ (u : Option ℕ). or_else u o) (tail-nearest l xs f ∙ e)
-
-uncounted : (y : ℕ) (xs : List ℕ) → count y xs ≡ 0 → member y xs ≡ false
-uncounted y xs h = by_bool (member y xs) (λ t. let c = member-counted y xs t in absurd (omega arith)) (λ t. t)
+chosen-tail : (l xs : List ℕ) (o : Option ℕ) (y : ℕ) → ((r : ℕ) → member r xs ≡ true → member r l ≡ true) → tail_of xs ≡ Some y → option_or (nearest_tail l xs) o ≡ Some y
+chosen-tail l xs o y f e = ap (λ (u : Option ℕ). option_or u o) (tail-nearest l xs f ∙ e)
 
 pub record Same (slots : ℕ) (m : Model) (l : Option ℕ) (r : Reclaimed) : Type 0 where
   pub out : l ≡ r.out
@@ -61,7 +62,7 @@ module _ (slots : ℕ) (q : Queues) (held : List ℕ) (s : Sound (of_queues slot
       let e = (some-tail q.ain (omega arith)).1 in
       let c = member-counted y q.ain (tail-member q.ain y e) in
       let o = s.once y in
-      let away : member y q.am ≡ false = uncounted y q.am (omega arith) in
+      let away : member y q.am ≡ false = not_counted y q.am (omega arith) in
       let l : chosen m held ≡ Some y = sym (prefers_a1in m held q.ain q.am _ h (sym (chosen-tail held q.ain _ y in_ain e)) refl refl) in
       let cut' : take (Kout slots) (y ∷ q.aout) ≡ remembered slots (tail_of q.ain) q.aout = take-cut (Kout slots) (y ∷ q.aout) (let z = s.short in omega arith) ∙ ap (λ (u : Option ℕ). remembered slots u q.aout) (sym e) in
       record {

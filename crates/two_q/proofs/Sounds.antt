@@ -1,14 +1,14 @@
 -- A page stands in one of the three lists at most, and no list is too long. Every step keeps that.
-use Rattle.std.proofs.Common.{◌≡◌, ℕ, ◌+◌, ◌/◌, ◌<◌, ◌≤◌, Bool, true, false, cond, eqb, ◌∷◌, ◌++◌, length, Some, None, Option, sym, refl, ap, ◌∙◌, subst, arith, length-append, ltb-true, eq-eqb, eqb-true}
+use Rattle.std.proofs.Common.{◌≡◌, ℕ, ◌+◌, ◌/◌, ◌<◌, ◌≤◌, Bool, true, false, cond, eqb, ◌∷◌, ◌++◌, length, Some, None, Option, sym, ap, ◌∙◌, subst, arith, length-append, eqb-true}
 use Rattle.std.proofs.lemmas.List.{length-take}
-use Rattle.std.proofs.lemmas.Bool.{false≢true}
-use Rattle.policy.specs.Sets.{member, accepts, entered, grown, Kept}
-use Rattle.two_q.specs.Lists.{count, less}
+use Rattle.recency.proofs.Pages.{by_bool}
+use Rattle.policy.specs.Once.{self_counted, member_append, distinct_append}
+use Rattle.policy.specs.Sets.{member, count, Kept}
+use Rattle.policy.proofs.Admissions.{Leaves}
+use Rattle.policy.proofs.Counts.{length_less_le, count_held, count_none, count_less_le, count-take}
+use Rattle.two_q.specs.Lists.{less}
 use Rattle.two_q.specs.Model.{Model, kout, resident, size, empty, touched, forgotten, gone, come, admitted}
-use Rattle.two_q.specs.Once.{member_append, distinct_append}
-use Rattle.two_q.proofs.Counts.{by_bool, neither, length_less_le, length_moved, count_held, count_none, count_less_le, count-moved, gone-room}
-use Rattle.two_q.proofs.Laws.{none-resident, some-resident, none-size, some_size}
-use Rattle.two_q.proofs.Tails.{count-take}
+use Rattle.two_q.proofs.Counts.{neither, length_moved, count-moved, gone-room, gone-bound}
 
 abbrev pub total : ℕ → Model → ℕ
 total p m = count p m.am + count p m.a1in + count p m.a1out
@@ -57,11 +57,8 @@ forgotten-none m p s h =
     let i = count_none p m.a1in away.1 in
     let o = s.once p in
     by_bool (member p m.a1out)
-    (λ t. let c = count_held p p m.a1out t in let l = self p (count p (less p m.a1out)) in omega arith)
+    (λ t. let c = count_held p p m.a1out t in let l = self_counted p (count p (less p m.a1out)) in omega arith)
     (λ t. let c = count_none p m.a1out t in let l = count_less_le p p m.a1out in omega arith)
-  where
-    self : (x n : ℕ) → cond (eqb x x) 1 0 + n ≡ 1 + n
-    self x n = ap (λ (b : Bool). cond b 1 0 + n) (eq-eqb x x refl)
 
 -- no page stands more often once another has left
 pub gone-total : (m : Model) (q p : ℕ) → resident m q ≡ true → total p (gone m (Some q)) ≤ total p m
@@ -74,7 +71,7 @@ gone-short : (m : Model) (q : ℕ) → length m.a1out ≤ kout m → length (gon
 gone-short m q h = by_bool (member q m.am) (λ t. rw t h) (λ t. rw t (let k = length-take (kout m) (q ∷ m.a1out) in omega arith))
 
 gone_bound_is : (m : Model) (q : ℕ) → m.bound ≡ (gone m (Some q)).bound
-gone_bound_is m q = by_bool (member q m.am) (λ t. rw t) (λ t. rw t)
+gone_bound_is m q = sym (gone-bound m q)
 
 pub gone-sound : (m : Model) (q : ℕ) → Sound m → resident m q ≡ true → Sound (gone m (Some q))
 gone-sound m q s e = record {
@@ -108,20 +105,7 @@ come-sound m false p s h z = record {
   most = s.most;
 }
 
--- what an accepted admission has: a leaving page that is resident, or a free frame
-abbrev pub Leaves : Model → Option ℕ → Type 0
-Leaves m None = size m < m.bound
-Leaves m (Some q) = resident m q ≡ true
-
-accepted_by : (a b : Bool) → cond a false b ≡ true → b ≡ true
-accepted_by true b h = absurd (false≢true h)
-accepted_by false b h = h
-
-pub leaves : (m : Model) (p : ℕ) (l : Option ℕ) → accepts (resident m) (size m) m.bound p l ≡ true → Leaves m l
-leaves m p None h = ltb-true (size m) m.bound (accepted_by (resident m p) _ h)
-leaves m p (Some q) h = accepted_by (resident m p) _ h
-
-pub admitted-sound : (m : Model) (p : ℕ) (l : Option ℕ) → Sound m → resident m p ≡ false → Leaves m l → Sound (admitted m p l)
+pub admitted-sound : (m : Model) (p : ℕ) (l : Option ℕ) → Sound m → resident m p ≡ false → Leaves (resident m) (size m) m.bound l → Sound (admitted m p l)
 admitted-sound m p None s away h = come-sound (forgotten m p) (member p m.a1out) p (forgotten-sound m p s) h (forgotten-none m p s away)
 admitted-sound m p (Some q) s away h =
     let f = forgotten m p in
@@ -131,11 +115,3 @@ admitted-sound m p (Some q) s away h =
     let r = gone-room f q m.bound h s.few in
     let b = gone_bound_is f q in
     come-sound g (member p m.a1out) p (gone-sound f q (forgotten-sound m p s) h) (omega arith) (omega arith)
-
-pub admitted-resident : (m : Model) (p : ℕ) (l : Option ℕ) → Sound m → Leaves m l → (r : ℕ) → resident (admitted m p l) r ≡ entered (resident m) p l r
-admitted-resident m p None s h r = none-resident m p r
-admitted-resident m p (Some q) s h r = some-resident m p q r (omega (arith, s.once r)) h
-
-pub admitted-size : (m : Model) (p : ℕ) (l : Option ℕ) → Leaves m l → size (admitted m p l) ≡ grown (size m) l
-admitted-size m p None h = none-size m p
-admitted-size m p (Some q) h = some_size m p q h

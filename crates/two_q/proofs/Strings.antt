@@ -1,43 +1,14 @@
 -- A run of the policy over a reference string is the printed run over it.
-use Rattle.std.proofs.Common.{◌≡◌, ℕ, ◌+◌, ◌≤◌, Bool, true, false, cond, List, [], ◌∷◌, ◌++◌, length, take, sym, refl, ap, ◌∙◌, subst, append_assoc, arith}
-use Rattle.std.proofs.lemmas.List.{append-nil}
+use Rattle.std.proofs.Common.{◌≡◌, ℕ, ◌+◌, ◌≤◌, cond, List, [], ◌∷◌, ◌++◌, length, take, sym, refl, ap, ◌∙◌, subst}
 use Rattle.policy.specs.Runs.{turn, Course, start, refer, run, hit_by, hits, fetches, left_by, left, reach, DidRun, Standing}
 use Rattle.policy.specs.declared.outcome.Outcome.{Outcome}
-use Rattle.policy.specs.declared.outcome.Outcome.TheVariants.{Hit, Fetch}
+use Rattle.policy.proofs.Tallies.{left_push, hits_push, fetches_push, hit_of, fetch_of}
 use Rattle.two_q.specs.AsPrinted.{of_queues, AsPrinted}
 use Rattle.two_q.specs.Model.{Model, empty}
 use Rattle.two_q.specs.Of.{two_q}
-use Rattle.two_q.specs.Printed.{Accessed, access, Run, tallied, run_from, printed_run}
-use Rattle.two_q.proofs.Accesses.{outcome_of, Did, accesses}
+use Rattle.two_q.specs.Printed.{access, Run, tallied, run_from, printed_run}
+use Rattle.two_q.proofs.Accesses.{Did, accesses}
 use Rattle.two_q.proofs.Sounds.{Sound, empty-sound}
-
--- what is read off the outcomes, with one more
-left_push : (os : List Outcome) (o : Outcome) → left (os ++ o ∷ []) ≡ left os ++ left_by o
-left_push [] o = append-nil (left_by o)
-left_push (p ∷ os) o = ap (λ (l : List ℕ). left_by p ++ l) (left_push os o) ∙ sym (append_assoc (left_by p) (left os) (left_by o))
-
-hits_push : (os : List Outcome) (o : Outcome) → hits (os ++ o ∷ []) ≡ hits os + cond (hit_by o) 1 0
-hits_push [] o = omega arith
-hits_push (p ∷ os) o = let i = hits_push os o in omega arith
-
-fetches_push : (os : List Outcome) (o : Outcome) → fetches (os ++ o ∷ []) ≡ fetches os + cond (hit_by o) 0 1
-fetches_push [] o = omega arith
-fetches_push (p ∷ os) o = let i = fetches_push os o in omega arith
-
--- an access that fetched is no hit
-hit_of : (a : Accessed) → ◌≡◌ {A = ℕ} (cond (hit_by (outcome_of a)) 1 0) (cond a.fetched 0 1)
-hit_of a = by a.fetched
-  where
-    by : (b : Bool) → ◌≡◌ {A = ℕ} (cond (hit_by (cond b (Fetch a.out) Hit)) 1 0) (cond b 0 1)
-    by true = refl
-    by false = refl
-
-fetch_of : (a : Accessed) → ◌≡◌ {A = ℕ} (cond (hit_by (outcome_of a)) 0 1) (cond a.fetched 1 0)
-fetch_of a = by a.fetched
-  where
-    by : (b : Bool) → ◌≡◌ {A = ℕ} (cond (hit_by (cond b (Fetch a.out) Hit)) 0 1) (cond b 1 0)
-    by true = refl
-    by false = refl
 
 -- where a run of the policy and a printed run stand alike
 pub record Alike (slots : ℕ) (c : Course Model) (r : Run) : Type 0 where
@@ -59,8 +30,8 @@ alike-step slots c r x h =
     record {
       lists = d.lists;
       left = left_push c.outcomes o ∙ ap (λ (l : List ℕ). l ++ left_by o) h.left ∙ ap (λ (l : List ℕ). r.left ++ l) (ap left_by d.outcome ∙ d.left);
-      hits = hits_push c.outcomes o ∙ ap (λ (n : ℕ). n + cond (hit_by o) 1 0) h.hits ∙ ap (λ (n : ℕ). r.hits + n) (ap (λ (w : Outcome). cond (hit_by w) 1 0) d.outcome ∙ hit_of a);
-      fetches = fetches_push c.outcomes o ∙ ap (λ (n : ℕ). n + cond (hit_by o) 0 1) h.fetches ∙ ap (λ (n : ℕ). r.fetches + n) (ap (λ (w : Outcome). cond (hit_by w) 0 1) d.outcome ∙ fetch_of a);
+      hits = hits_push c.outcomes o ∙ ap (λ (n : ℕ). n + cond (hit_by o) 1 0) h.hits ∙ ap (λ (n : ℕ). r.hits + n) (ap (λ (w : Outcome). cond (hit_by w) 1 0) d.outcome ∙ hit_of a.fetched a.out);
+      fetches = fetches_push c.outcomes o ∙ ap (λ (n : ℕ). n + cond (hit_by o) 0 1) h.fetches ∙ ap (λ (n : ℕ). r.fetches + n) (ap (λ (w : Outcome). cond (hit_by w) 0 1) d.outcome ∙ fetch_of a.fetched a.out);
       sound = d.sound;
       standing = d.standing;
     }

@@ -1,12 +1,14 @@
 -- The tail of a queue, and what the model says of the same page.
-use Rattle.std.proofs.Common.{◌≡◌, ℕ, zero, suc, ◌+◌, ◌<◌, ◌≤◌, Bool, true, false, cond, eqb, ltb, List, [], ◌∷◌, length, take, Some, None, Option, sym, refl, ap, ◌∙◌, arith, ltb-false, ltb-true, eq-eqb}
-use Rattle.std.proofs.lemmas.List.{take_all}
-use Rattle.std.proofs.lemmas.Bool.{false≢true}
+use Rattle.std.proofs.Common.{◌≡◌, ℕ, zero, suc, ◌+◌, ◌<◌, ◌≤◌, Bool, true, false, cond, eqb, ltb, List, [], ◌∷◌, ◌++◌, reverse, length, take, Some, None, Option, sym, refl, ap, ◌∙◌, arith, ltb-false, ltb-true, eq-eqb}
+use Rattle.std.proofs.lemmas.List.{take_all, reverse-append}
 use Rattle.std.proofs.lemmas.Bool.Decides.{nat_tests}
-use Rattle.policy.specs.Sets.{member}
-use Rattle.two_q.specs.Lists.{count, less, or_else, nearest_tail}
+use Rattle.std.specs.Option.{option_or}
+use Rattle.std.specs.List.{find}
+use Rattle.recency.proofs.Pages.{by_bool}
+use Rattle.policy.specs.Sets.{member, count}
+use Rattle.policy.proofs.Counts.{member-counted}
+use Rattle.two_q.specs.Lists.{less, nearest_tail}
 use Rattle.two_q.specs.Printed.{tail_of, untailed, cut}
-use Rattle.two_q.proofs.Counts.{by_bool}
 
 pub tail_of_lem : (x : ℕ) (xs : List ℕ) → (y : ℕ) × (tail_of (x ∷ xs) ≡ Some y)
 tail_of_lem x [] = (x, refl)
@@ -16,7 +18,7 @@ pub some-tail : (xs : List ℕ) → 0 < length xs → (y : ℕ) × (tail_of xs �
 some-tail [] h = absurd (omega arith)
 some-tail (x ∷ xs) h = tail_of_lem x xs
 
-or_first : (o u : Option ℕ) (y : ℕ) → o ≡ Some y → or_else o u ≡ o
+or_first : (o u : Option ℕ) (y : ℕ) → o ≡ Some y → option_or o u ≡ o
 or_first None u y e = let z : ◌≡◌ {A = ℕ} 0 1 = cc in absurd (omega arith)
 or_first (Some x) u y e = refl
 
@@ -28,7 +30,7 @@ tail-nearest l (x ∷ []) f =
 tail-nearest l (x ∷ y ∷ ys) f =
     let t = tail_of_lem y ys in
     let i = tail-nearest l (y ∷ ys) (λ r h. f r (later r h)) in
-    ap (λ (o : Option ℕ). or_else o (cond (member x l) (Some x) None)) i ∙ or_first (tail_of (y ∷ ys)) _ t.0 t.1
+    ap (λ (o : Option ℕ). option_or o (cond (member x l) (Some x) None)) i ∙ or_first (tail_of (y ∷ ys)) _ t.0 t.1
   where
     later : (r : ℕ) → member r (y ∷ ys) ≡ true → member r (x ∷ y ∷ ys) ≡ true
     later r h = grind (arith, nat_tests)
@@ -40,10 +42,6 @@ tail-member (x ∷ z ∷ zs) y e = let i = tail-member (z ∷ zs) y e in later i
   where
     later : member y (z ∷ zs) ≡ true → member y (x ∷ z ∷ zs) ≡ true
     later h = grind (arith, nat_tests)
-
-pub member-counted : (y : ℕ) (xs : List ℕ) → member y xs ≡ true → 1 ≤ count y xs
-member-counted y [] h = absurd (false≢true h)
-member-counted y (x ∷ xs) h = let i = member-counted y xs in grind (arith, nat_tests)
 
 -- a queue without its tail is the list with that page taken out
 pub less-tail : (xs : List ℕ) (y : ℕ) → tail_of xs ≡ Some y → count y xs ≤ 1 → less y xs ≡ untailed xs
@@ -73,7 +71,11 @@ take-cut k xs h =
     (λ t. take-untailed k xs (let l = ltb-true k (length xs) t in omega arith) ∙ sym (ap (λ (b : Bool). cond b (untailed xs) xs) t))
     (λ t. take_all k xs (ltb-false k (length xs) t) ∙ sym (ap (λ (b : Bool). cond b (untailed xs) xs) t))
 
-pub count-take : (p k : ℕ) (xs : List ℕ) → count p (take k xs) ≤ count p xs
-count-take p zero xs = omega arith
-count-take p (suc k) [] = omega arith
-count-take p (suc k) (x ∷ xs) = let i = count-take p k xs in omega arith
+-- std's search from the tail
+find_push : (t : ℕ → Bool) (xs : List ℕ) (x : ℕ) → find t (xs ++ x ∷ []) ≡ option_or (find t xs) (cond (t x) (Some x) None)
+find_push t [] x = refl
+find_push t (y ∷ ys) x = by_bool (t y) (λ e. rw e) (λ e. rw e (find_push t ys x))
+
+pub tail_found : (t : ℕ → Bool) (l : List ℕ) → ((x : ℕ) → t x ≡ member x l) → (xs : List ℕ) → find t (reverse xs) ≡ nearest_tail l xs
+tail_found t l h [] = refl
+tail_found t l h (x ∷ xs) = ap (find t) (reverse-append (x ∷ []) xs) ∙ find_push t (reverse xs) x ∙ (λ i. option_or (tail_found t l h xs i) (cond (h x i) (Some x) None))

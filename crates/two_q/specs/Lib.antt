@@ -3,5 +3,4 @@ pub mod Figures
 pub mod Lists
 pub mod Model
 pub mod Of
-pub mod Once
 pub mod Printed

@@ -1,8 +1,9 @@
 -- What 2Q remembers: three lists of pages, each from its head, and the frame count. The pages of Am
 -- and of A1in are resident, those of A1out are only remembered.
 use Rattle.std.specs.Prelude.{ℕ, ◌+◌, ◌/◌, Bool, true, cond, List, [], ◌∷◌, length, take, Some, None, Option, nat_lt}
+use Rattle.std.specs.Option.{option_or}
 use Rattle.policy.specs.Sets.{member}
-use Rattle.two_q.specs.Lists.{less, moved, or_else, nearest_tail}
+use Rattle.two_q.specs.Lists.{less, moved, nearest_tail}
 
 pub record Model : Type 0 where
   pub bound : ℕ
@@ -35,8 +36,8 @@ touched m p = record { bound = m.bound; am = moved p m.am; a1in = m.a1in; a1out 
 abbrev pub chosen : Model → List ℕ → Option ℕ
 chosen m listed =
     cond (nat_lt (kin m) (length m.a1in))
-    (or_else (nearest_tail listed m.a1in) (nearest_tail listed m.am))
-    (or_else (nearest_tail listed m.am) (nearest_tail listed m.a1in))
+    (option_or (nearest_tail listed m.a1in) (nearest_tail listed m.am))
+    (option_or (nearest_tail listed m.am) (nearest_tail listed m.a1in))
 
 -- A page is taken out of A1out.
 abbrev pub forgotten : Model → ℕ → Model

@@ -1,21 +1,21 @@
 -- What the policy 2Q means.
-use Rattle.std.proofs.Common.{sym, arith, length-append, length-take}
-use Rattle.std.specs.Prelude.{◌++◌, take}
+use Rattle.std.proofs.Common.{sym, length-append}
+use Rattle.std.specs.Prelude.{◌++◌}
 use Rattle.policy.specs.Sets.{Kept}
 use Rattle.policy.specs.declared.policy.Policy as policy
 use Rattle.two_q.specs.declared.two_q.TwoQ.{TwoQ}
 use Rattle.two_q.specs.Model.{Model, resident, size, empty, touched, chosen, admitted}
-use Rattle.two_q.specs.Once.{member_append, distinct_append}
+use Rattle.policy.specs.Once.{member_append, distinct_append}
 
 abbrev pub model : TwoQ → Model
-model q = record { bound = q.frames.value; am = take q.am_len q.am; a1in = take q.a1in_len q.a1in; a1out = take q.a1out_len q.a1out }
+model q = record { bound = q.frames.value; am = q.am; a1in = q.a1in; a1out = q.a1out }
 
 pub kept : (q : TwoQ) → Kept (resident (model q)) (size (model q)) q.frames.value
 kept q = record {
   least = q.frames.least;
   most = q.frames.most;
-  within = omega (arith, q.few, length-take q.am_len q.am, length-take q.a1in_len q.a1in);
-  counted = (take q.am_len q.am ++ take q.a1in_len q.a1in, distinct_append _ _ q.once, length-append (take q.am_len q.am) (take q.a1in_len q.a1in), λ p. sym (member_append p (take q.am_len q.am) (take q.a1in_len q.a1in)));
+  within = q.few;
+  counted = (q.am ++ q.a1in, distinct_append _ _ q.once, length-append q.am q.a1in, λ p. sym (member_append p q.am q.a1in));
 }
 
 abbrev pub two_q : policy.Ghosts TwoQ

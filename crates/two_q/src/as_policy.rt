@@ -1,6 +1,6 @@
 ghost use Rattle.two_q.specs.Of.{two_q};
 
-use crate::tables::{either, lists};
+use crate::nearest::either;
 use crate::two_q::TwoQ;
 use policy::{FrameCount, Policy};
 
@@ -30,47 +30,33 @@ impl Policy for TwoQ {
     }
 
     fn restart(&mut self) {
-        self.am_len = 0;
-        self.a1in_len = 0;
-        self.a1out_len = 0;
+        self.am.clear();
+        self.a1in.clear();
+        self.a1out.clear();
     }
 
     fn hit(&mut self, page: u32, _t: u32) -> bool {
-        if lists(self.am(), page) {
+        if self.am.contains(page) {
             self.touch(page);
             return true;
         }
-        lists(self.a1in(), page)
+        self.a1in.contains(page)
     }
 
     fn choose(&self, listed: &[u32], _t: u32) -> Option<u32> {
-        if self.a1in().len() > self.kin() {
+        if self.a1in.len() > self.kin() {
             return either(self.a1in(), self.am(), listed);
         }
         either(self.am(), self.a1in(), listed)
     }
 
     fn admit(&mut self, page: u32, leaving: Option<u32>, _t: u32) -> bool {
-        if self.has(page) {
+        if !self.takes(page, leaving) {
             return false;
         }
-        match leaving {
-            Some(gone) => {
-                if !self.has(gone) {
-                    return false;
-                }
-                let known = self.forget(page);
-                self.let_out(gone);
-                self.let_in(known, page);
-            }
-            None => {
-                if self.is_full() {
-                    return false;
-                }
-                let known = self.forget(page);
-                self.let_in(known, page);
-            }
-        }
+        let known = self.forget(page);
+        self.let_out(leaving);
+        self.let_in(known, page);
         true
     }
 }

@@ -4,9 +4,9 @@
 mod as_policy;
 mod figures;
 mod lists;
+mod nearest;
 mod run;
 mod steps;
-mod tables;
 #[cfg(test)]
 mod tests;
 mod two_q;

@@ -4,6 +4,7 @@ ghost use Rattle.two_q.specs.Model.{empty};
 
 use crate::two_q::TwoQ;
 use policy::FrameCount;
+use recency::Table;
 
 // Ways to make the policy and to look at its lists, each from its head.
 impl TwoQ {
@@ -12,30 +13,27 @@ impl TwoQ {
     {
         TwoQ {
             frames,
-            am: [0; 64],
-            am_len: 0,
-            a1in: [0; 64],
-            a1in_len: 0,
-            a1out: [0; 32],
-            a1out_len: 0,
+            am: Table::new(0),
+            a1in: Table::new(0),
+            a1out: Table::new(0),
         }
     }
 
     pub fn am(&self) -> &[u32]
         ensures { result.now ≡ (model self.now).am }
     {
-        &self.am[0..self.am_len]
+        self.am.as_slice()
     }
 
     pub fn a1in(&self) -> &[u32]
         ensures { result.now ≡ (model self.now).a1in }
     {
-        &self.a1in[0..self.a1in_len]
+        self.a1in.as_slice()
     }
 
     pub fn a1out(&self) -> &[u32]
         ensures { result.now ≡ (model self.now).a1out }
     {
-        &self.a1out[0..self.a1out_len]
+        self.a1out.as_slice()
     }
 }

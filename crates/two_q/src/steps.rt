@@ -1,10 +1,9 @@
 // The steps that an admission and a hit are made of.
-ghost use Rattle.std.specs.Prelude.{◌≡◌, ◌<◌, false, Some, nat_le};
-ghost use Rattle.policy.specs.Sets.{member};
+ghost use Rattle.std.specs.Prelude.{◌≡◌, ◌<◌, false, nat_le};
+ghost use Rattle.policy.specs.Sets.{member, accepts};
 ghost use Rattle.two_q.specs.Model.{kin, kout, resident, size, touched, forgotten, gone, come};
 ghost use Rattle.two_q.specs.Of.{model};
 
-use crate::tables::{lists, push, raise, remove};
 use crate::two_q::TwoQ;
 
 impl TwoQ {
@@ -23,28 +22,37 @@ impl TwoQ {
     }
 
     // Whether as many pages are resident as may be.
-    pub(crate) fn is_full(&self) -> bool
+    fn is_full(&self) -> bool
         ensures { result ≡ nat_le (model self.now).bound (size (model self.now)) }
     {
-        self.am().len() + self.a1in().len() >= self.frames.value() as usize
+        self.am.len() + self.a1in.len() >= self.frames.value() as usize
     }
 
     // Whether a page is resident.
-    pub(crate) fn has(&self, page: u32) -> bool
+    fn has(&self, page: u32) -> bool
         ensures { result ≡ resident (model self.now) page }
     {
-        if lists(self.am(), page) {
-            return true;
+        self.am.contains(page) || self.a1in.contains(page)
+    }
+
+    // Whether a page may come in and the leaving one, if any, go out.
+    pub(crate) fn takes(&self, page: u32, leaving: Option<u32>) -> bool
+        ensures { result ≡ accepts (resident (model self.now)) (size (model self.now)) (model self.now).bound page leaving }
+    {
+        if self.has(page) {
+            return false;
         }
-        lists(self.a1in(), page)
+        match leaving {
+            Some(gone) => self.has(gone),
+            None => !self.is_full(),
+        }
     }
 
     // Moves a page of Am to its head.
     pub(crate) fn touch(&mut self, page: u32)
         ensures { model self.new ≡ touched (model self.old) page }
     {
-        let len = self.am_len;
-        raise(&mut self.am, len, page);
+        self.am.raise(page);
     }
 
     // Takes a page out of A1out, and answers whether it was there.
@@ -52,30 +60,23 @@ impl TwoQ {
         ensures answer { result ≡ member page (model self.old).a1out }
         ensures after { model self.new ≡ forgotten (model self.old) page }
     {
-        let known = lists(self.a1out(), page);
-        let len = self.a1out_len;
-        let len = remove(&mut self.a1out, len, page);
-        self.a1out_len = len;
-        known
+        self.a1out.remove(page).is_some()
     }
 
-    // A page leaves; from A1in it goes to the head of A1out.
-    pub(crate) fn let_out(&mut self, page: u32)
-        ensures { model self.new ≡ gone (model self.old) (Some page) }
+    // The leaving page, if any, goes out; from A1in it goes to the head of A1out.
+    pub(crate) fn let_out(&mut self, leaving: Option<u32>)
+        ensures { model self.new ≡ gone (model self.old) leaving }
     {
+        let Some(page) = leaving else {
+            return;
+        };
         let kout = self.kout();
-        let len = self.am_len;
-        if lists(self.am(), page) {
-            let len = remove(&mut self.am, len, page);
-            self.am_len = len;
+        if self.am.remove(page).is_some() {
             return;
         }
-        let len = self.a1in_len;
-        let len = remove(&mut self.a1in, len, page);
-        self.a1in_len = len;
-        let kept = self.a1out_len.min(kout - 1);
-        let len = push(&mut self.a1out, kept, page);
-        self.a1out_len = len;
+        let _ = self.a1in.remove(page);
+        self.a1out.push(page);
+        self.a1out.truncate(kout);
     }
 
     // A page comes in: to the head of Am if it is known, else of A1in.
@@ -85,13 +86,9 @@ impl TwoQ {
         ensures { model self.new ≡ come (model self.old) known page }
     {
         if known {
-            let len = self.am_len;
-            let len = push(&mut self.am, len, page);
-            self.am_len = len;
+            self.am.push(page);
             return;
         }
-        let len = self.a1in_len;
-        let len = push(&mut self.a1in, len, page);
-        self.a1in_len = len;
+        self.a1in.push(page);
     }
 }

@@ -16,9 +16,8 @@ pub fn mark_all<D: Device>(list: &mut DefectList<D>, marks: &[Mark]) -> Result<(
     ensures { DidMarkAll D.Device list.old marks.now result list.new }
 {
     for (at, mark) in marks.iter().enumerate() {
-        if let Err(refusal) = list.mark(mark.page, mark.defect) {
-            return Err(MarkRefused { at, refusal });
-        }
+        list.mark(mark.page, mark.defect)
+            .map_err(|refusal| MarkRefused { at, refusal })?;
     }
     Ok(())
 }

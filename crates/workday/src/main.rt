@@ -3,20 +3,21 @@
 #![tactic(auto)]
 
 mod day;
-mod input;
 mod problem;
 mod save;
 mod session;
 mod settings;
-mod table;
 
-use anyhow::anyhow;
+use anyhow::bail;
 use day::work;
-use input::read_books;
+use desk::{Books, read_books};
+use ends::whole_pages;
 use problem::Problem;
 use save::save;
 use settings::read_settings;
 use std::env;
+use stock::Layout;
+use volume::open_volume;
 
 const USAGE: &str = "usage: register BATCH-BOOK FEE-BOOK ARCHIVE DEFECTS [SETTINGS]
 Works the volume that the three books make, through one buffer pool. DEFECTS is a
@@ -34,38 +35,42 @@ files, each as a new file that takes the old one's place.";
 
 fn run(rt: &HostRuntime) -> Result<(), Problem> {
     let heap = rt.alloc();
-    let mut words = Vec::new(heap);
-    for word in env::args(rt)?.skip(1) {
-        words.push(word)?;
-    }
-    if words.len() == 1 && words[0].as_str() == "--help" {
+    let words: Vec<String> = env::args(rt)?.skip(1).collect(heap)?;
+    if let [word] = words.as_slice()
+        && word.as_str() == "--help"
+    {
         rt.println(USAGE)?;
         return Ok(());
     }
-    if words.len() < 4 {
+    let Some((names, settings)) = words.as_slice().split_first_chunk::<4>() else {
         return Err(Problem::Usage);
+    };
+    let settings = read_settings(settings)?;
+    let Books {
+        mut batch,
+        mut fees,
+        archive,
+        defects,
+    } = read_books(rt, names)?;
+    let layout = Layout {
+        batch_pages: whole_pages(batch.len()),
+        fee_pages: whole_pages(fees.len()),
+    };
+    let marks = defects.marks(heap)?;
+    let volume = open_volume(&mut batch, &mut fees, &archive, &marks).map_err(
+        |refused| defects.blame(refused),
+    )?;
+    if work(rt, settings, volume, layout)? {
+        save(rt, &names[0], &batch)?;
+        save(rt, &names[1], &fees)?;
     }
-    let settings = read_settings(&words[4..])?;
-    let mut books = read_books(rt, &words[0..4])?;
-    match work(rt, settings, &mut books) {
-        Ok(altered) => {
-            if altered {
-                save(rt, &words[0], &books.batch)?;
-                save(rt, &words[1], &books.fees)?;
-            }
-            Ok(())
-        }
-        Err(Problem::Marks(refused)) => Err(books.blame(refused)),
-        Err(problem) => Err(problem),
-    }
+    Ok(())
 }
 
 fn main(rt: HostRuntime) -> anyhow::Result<()> {
-    match run(&rt) {
-        Ok(()) => Ok(()),
-        Err(problem) => {
-            eprintln!(rt; "register: {problem}")?;
-            Err(anyhow!("the register stopped"))
-        }
+    if let Err(problem) = run(&rt) {
+        eprintln!(rt; "register: {problem}")?;
+        bail!("the register stopped");
     }
+    Ok(())
 }

@@ -10,15 +10,17 @@ fn put(rt: &HostRuntime, name: &str, bytes: &[u8]) -> io::Result<()> {
     file.sync_all()
 }
 
-// Writes a book back: its new content goes to a new file, which then takes the old one's place, so
-// that a cut at any moment leaves the old book or the new one.
+// Writes the bytes to a new file, which then takes the old one's place.
+fn replace(rt: &HostRuntime, fresh: &str, name: &str, bytes: &[u8]) -> io::Result<()> {
+    put(rt, fresh, bytes)?;
+    fs::rename(rt, fresh, name)
+}
+
+// Writes a book back, so that a cut at any moment leaves the old book or the new one.
 pub(crate) fn save(rt: &HostRuntime, name: &String, bytes: &[u8]) -> Result<(), Problem> {
     let fresh = format!(in rt.alloc(); "{name}.new")?;
-    if let Err(error) = put(rt, fresh.as_str(), bytes) {
-        return Err(Problem::NotWritten(name.clone()?, error));
-    }
-    if let Err(error) = fs::rename(rt, fresh.as_str(), name.as_str()) {
-        return Err(Problem::NotWritten(name.clone()?, error));
-    }
-    Ok(())
+    replace(rt, fresh.as_str(), name.as_str(), bytes).try_map_err(|error| -> Result<
+        Problem,
+        Problem,
+    > { Ok(Problem::NotWritten(name.clone()?, error)) })
 }

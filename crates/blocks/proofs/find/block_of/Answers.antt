@@ -1,9 +1,13 @@
-use Rattle.std.proofs.Common.{sym, ◌∙◌}
-use Rattle.blocks.proofs.Places.{at, unplaced}
+use Rattle.std.proofs.Common.{eqb, ◌∙◌, rules, tests}
+use Rattle.std.proofs.lemmas.Iterator.{YieldsList-from_slice}
+use Rattle.std.proofs.lemmas.Iterator.Search.{find_from_yields_List}
+use Rattle.blocks.specs.declared.block.Block.{Block}
+use Rattle.blocks.proofs.Places.{found_first}
 use Rattle.blocks.proofs.find.block_of.Goals as goal
 
-pub returns-in_default : goal.returns-in_default
-returns-in_default c = sym (unplaced c.args.page c.args.blocks.now (sym c.place_of.ensures.value ∙ c.in_default.is)).none
-
 pub returns : goal.returns
-returns c = sym ((at c.args.page c.in-Some.place c.args.blocks.now (sym c.place_of.ensures.value ∙ c.in-Some.is)).one _)
+returns c =
+    let bs = c.args.blocks.now in
+    c.copied.ensures
+    ∙ find_from_yields_List (λ (b : Block). eqb b.page c.args.page) _ _ c.find.result c.find.ensures.ran (YieldsList-from_slice bs c.iter.ensures.rest) (λ x b q k. search (rules, tests))
+    ∙ found_first c.args.page bs

@@ -8,7 +8,7 @@ returns-then-page-count g c = flush_refused c.args.self.now c.args.page (omega (
 pub returns-in_default : goal.returns-in_default
 returns-in_default g c = flush_none c.args.self.now c.args.page (omega (arith, c.count.ensures)) c.in_default.ensures
 
-pub returns : goal.returns
-returns g c =
+pub returns-in-Some : goal.returns-in-Some
+returns-in-Some g c =
     let found = c.in-Some.ensures in
     flush_back c.args.self.now c.write_back.new.self c.args.page c.in-Some.place.index (omega (arith, c.count.ensures)) found.0 found.1 c.write_back.ensures

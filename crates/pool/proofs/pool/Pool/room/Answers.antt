@@ -1,14 +1,9 @@
-use Rattle.std.proofs.Common.{◌≡◌, ℕ, ◌-◌, ◌<◌, ◌≤◌, ltb, List, take, None, sym, ap, ◌∙◌, arith}
-use native.Mathlib.Nat.{sub-zero}
+use Rattle.std.proofs.Common.{ℕ, ◌<◌, ◌≤◌, ltb, List, None, sym, ap, ◌∙◌, arith}
 use Rattle.std.proofs.lemmas.Bool.{cond-true, cond-false, lt-ltb, le-ltb}
 use Rattle.frames.specs.Table.{frame, idle, page_in}
 use Rattle.pool.proofs.Choosing.{all-pinned, chosen-idle, chosen-place}
 use Rattle.pool.proofs.Places.{at_where}
 use Rattle.pool.proofs.pool.Pool.room.Goals as goal
-
--- what is passed is the list
-passed : (n : ℕ) (xs ls : List ℕ) → take n xs ≡ ls → take (n - 0) xs ≡ ls
-passed n xs ls e = ap (λ (k : ℕ). take k xs) (sub-zero n) ∙ e
 
 pub returns-in-Some : goal.returns-in-Some
 returns-in-Some g c =
@@ -27,20 +22,20 @@ returns-in_default-choose g c =
     let pool = c.args.self.now in
     let p = g.P.Policy in
     let fs = pool.frames in
-    let same = passed c.idle-n.result c.idle-n.new.list (idle fs.used (frame fs)) c.idle-n.ensures.pages in
+    let same = c.deref.ensures.0 ∙ c.idle-idle.ensures in
     let kept = p.kept pool.policy in (
       omega (arith, pool.tied.filled, c.frames.ensures, c.in_default.ensures, kept.within),
       all-pinned fs.used (frame fs) _ _ _ pool.tied _ same c.in_default-choose.ensures.right,
     )
 
-pub returns-in_default-find : goal.returns-in_default-find
-returns-in_default-find g c =
+pub returns-in_err-place : goal.returns-in_err-place
+returns-in_err-place g c =
     let pool = c.args.self.now in
     let fs = pool.frames in
-    let same = passed c.idle-n.result c.idle-n.new.list (idle fs.used (frame fs)) c.idle-n.ensures.pages in
+    let same = c.deref.ensures.0 ∙ c.idle-idle.ensures in
     let w = chosen-idle fs.used (frame fs) _ _ _ pool.tied _ c.in-Some-choose.page same c.in-Some-choose.ensures.right.0 in
     let seat = at_where fs.used (frame fs) c.in-Some-choose.page w.0 w.1 in
-    absurd (c.in_default-find.ensures seat.place seat.low (ap page_in seat.is ∙ seat.page))
+    absurd (c.in_err-place.ensures seat.place seat.low (ap page_in seat.is ∙ seat.page))
 
 pub returns : goal.returns
 returns g c =
@@ -49,11 +44,11 @@ returns g c =
     let m = p.model pool.policy in
     let fs = pool.frames in
     let ls = idle fs.used (frame fs) in
-    let same = passed c.idle-n.result c.idle-n.new.list ls c.idle-n.ensures.pages in
+    let same = c.deref.ensures.0 ∙ c.idle-idle.ensures in
     let full : p.bound m ≤ p.size m = omega (arith, pool.tied.filled, c.frames.ensures, c.in_default.ensures) in
     record {
       leaving = c.in-Some-choose.ensures.step
           ∙ ap (λ (l : List ℕ). p.chosen m l c.args.t) same
           ∙ sym (cond-false (ltb (p.size m) (p.bound m)) None (p.chosen m ls c.args.t) (le-ltb (p.size m) (p.bound m) full));
-      place = chosen-place fs.used (frame fs) _ _ _ pool.tied _ c.in-Some-choose.page same c.in-Some-choose.ensures.right.0 c.in-Some-find.place (p.bound m) c.in-Some-find.ensures;
+      place = chosen-place fs.used (frame fs) _ _ _ pool.tied _ c.in-Some-choose.page same c.in-Some-choose.ensures.right.0 c.in_ok-place.place (p.bound m) c.in_ok-place.ensures;
     }

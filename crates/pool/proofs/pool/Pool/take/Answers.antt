@@ -18,7 +18,6 @@ use Rattle.pool.proofs.pool.Pool.take.Goals as goal
 pub invariant_of-self : goal.invariant_of-self
 invariant_of-self g c =
     let d = g.D.Device in
-    let p = g.P.Policy in
     let pool = c.args.self.now in
     let r = c.requires in
     let n = pool.frames.used in

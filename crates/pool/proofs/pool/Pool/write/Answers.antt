@@ -1,19 +1,14 @@
-use Rattle.std.proofs.Common.{Result, sym, subst}
-use Rattle.page.specs.declared.refusal.Refusal.{Refusal}
+use Rattle.std.proofs.Common.{refl}
 use Rattle.book.specs.Call.Call.{Write}
-use Rattle.pool.specs.Did.{Did, done}
-use Rattle.pool.proofs.Doings.{exit_err}
-use Rattle.pool.proofs.Working.{write-refused, did_write, written_kept}
+use Rattle.pool.specs.Did.{done}
+use Rattle.pool.proofs.Doings.{exit_refused}
+use Rattle.pool.proofs.Working.{first_no_lem, did_write, written_kept}
 use Rattle.pool.proofs.pool.Pool.write.Goals as goal
 
 pub returns-in_err-place : goal.returns-in_err-place
 returns-in_err-place g c =
-    let d = g.D.Device in
-    let p = g.P.Policy in
-    let pool = c.args.self.now in
     let t = c.args.grant.now in
-    let A : Result (Unit {0}) Refusal → Type 0 = λ r. Did pool (Write t.mark t.page c.args.offset c.args.bytes.now) (done r) pool in
-    subst A (sym (exit_err c.from_residual.result _ c.from_residual.ensures.1)) (write-refused pool t.mark t.page c.args.offset c.args.bytes.now _ c.in_err-place.ensures)
+    exit_refused c.args.self.now (Write t.mark t.page c.args.offset c.args.bytes.now) done (λ e. refl) c.from_residual.result _ c.from_residual.ensures.1 (first_no_lem _ _ _ c.in_err-place.ensures)
 
 pub invariant_of-self : goal.invariant_of-self
 invariant_of-self g c =

@@ -1,45 +1,44 @@
-use Rattle.std.proofs.Common.{◌≡◌, ℕ, ◌<◌, ◌≤◌, Bool, true, false, cond, Some, Option, sym, ap, ◌∙◌, subst, arith}
-use Rattle.std.proofs.lemmas.List.{length-take}
-use Rattle.std.proofs.lemmas.Bool.{false≢true}
-use Rattle.policy.specs.Sets.{accepts, entered, grown}
+use Rattle.std.proofs.Common.{◌≡◌, ℕ, ◌<◌, Bool, false, Option, sym, ap, ◌∙◌, subst}
+use Rattle.policy.specs.Sets.{member}
+use Rattle.policy.proofs.Admissions.{leaves, absent}
 use Rattle.two_q.specs.Model.{Model, resident, size, forgotten, gone, come, admitted}
 use Rattle.two_q.specs.Of.{model}
-use Rattle.two_q.proofs.Counts.{gone-room, gone-absent, gone-bound}
-use Rattle.two_q.proofs.Laws.{some-resident, some_size, some-bound}
+use Rattle.two_q.proofs.Counts.{room-after, absent-after}
+use Rattle.two_q.proofs.Laws.{admitted-resident, admitted-size}
 use Rattle.two_q.proofs.as_policy.TwoQPolicy.admit.Goals as goal
 
-pub let_in-requires : goal.let_in-requires
-let_in-requires c =
-    let s = c.forget-known.new.self in
-    let t = c.let_out.new.self in
-    let f = c.forget-known.ensures.after in
-    let o = c.let_out.ensures in
-    let out = c.in-Some.gone in
-    let here : resident (model s) out ≡ true = ap (λ (m : Model). resident m out) f ∙ sym c.has-in-Some.ensures ∙ c.if-not-has.false in
-    let away : resident (model s) c.args.page ≡ false = ap (λ (m : Model). resident m c.args.page) f ∙ sym c.has.ensures ∙ c.if-has.false in
-    let same : t.frames.value ≡ s.frames.value = ap (λ (m : Model). m.bound) o ∙ gone-bound (model s) out in
-    let fits : size (model s) ≤ t.frames.value = omega (arith, length-take s.am_len s.am, length-take s.a1in_len s.a1in, s.few) in
-    record {
-      room = subst (λ (m : Model). size m < t.frames.value) (sym o) (gone-room (model s) out _ here fits);
-      absent = subst (λ (m : Model). resident m c.args.page ≡ false) (sym o) (gone-absent (model s) out c.args.page away);
-    }
-
-pub returns-else-not-has : goal.returns-else-not-has
-returns-else-not-has c =
-    let q = c.args.self.now in
-    let m = model q in
+pub let_in-requires-clause-room : goal.let_in-requires-clause-room
+let_in-requires-clause-room c =
+    let m = model c.args.self.now in
     let p = c.args.page in
-    let out = c.in-Some.gone in
-    let is : c.args.leaving ≡ Some out = c.in-Some.is in
-    let here : resident m out ≡ true = sym c.has-in-Some.ensures ∙ c.if-not-has.false in
-    let away : resident m p ≡ false = sym c.has.ensures ∙ c.if-has.false in
-    let after : model c.let_in.new.self ≡ admitted m p (Some out) =
-    c.let_in.ensures ∙ ap (λ (n : Model). come n c.forget-known.result p) (c.let_out.ensures ∙ ap (λ (n : Model). gone n (Some out)) c.forget-known.ensures.after) ∙ ap (λ (b : Bool). come (gone (forgotten m p) (Some out)) b p) c.forget-known.ensures.answer in
-    record {
-      answer = sym (ap (λ (l : Option ℕ). accepts (resident m) (size m) q.frames.value p l) is ∙ ap (λ (b : Bool). cond b false (resident m out)) away ∙ here);
-      step = λ _. after ∙ ap (admitted m p) (sym is);
-      refused = λ h. absurd (false≢true (sym h));
-      resident = λ _ r. ap (λ (n : Model). resident n r) after ∙ some-resident m p out r (q.once r) here ∙ ap (λ (l : Option ℕ). entered (resident m) p l r) (sym is);
-      size = λ _. ap size after ∙ some_size m p out here ∙ ap (grown (size m)) (sym is);
-      bound = ap (λ (n : Model). n.bound) after ∙ some-bound m p out;
-    }
+    let l = c.args.leaving in
+    let out = c.let_out.ensures ∙ ap (λ (n : Model). gone n l) c.forget-known.ensures.after in
+    subst (λ (n : Model). size n < n.bound) (sym out) (room-after (forgotten m p) l (leaves (resident m) (size m) m.bound p l (sym c.takes.ensures ∙ c.if-not-takes.false)) c.args.self.now.few)
+
+pub let_in-requires-clause-absent : goal.let_in-requires-clause-absent
+let_in-requires-clause-absent c =
+    let m = model c.args.self.now in
+    let p = c.args.page in
+    let l = c.args.leaving in
+    let out = c.let_out.ensures ∙ ap (λ (n : Model). gone n l) c.forget-known.ensures.after in
+    subst (λ (n : Model). resident n p ≡ false) (sym out) (absent-after (forgotten m p) l p (absent (resident m) (size m) m.bound p l (sym c.takes.ensures ∙ c.if-not-takes.false)))
+
+-- the three steps together
+steps : (m m₁ m₂ m₃ : Model) (known : Bool) (p : ℕ) (l : Option ℕ) → m₁ ≡ forgotten m p → known ≡ member p m.a1out → m₂ ≡ gone m₁ l → m₃ ≡ come m₂ known p → m₃ ≡ admitted m p l
+steps m m₁ m₂ m₃ known p l f k o e = e ∙ ap (λ (n : Model). come n known p) (o ∙ ap (λ (n : Model). gone n l) f) ∙ ap (λ (b : Bool). come (gone (forgotten m p) l) b p) k
+
+pub returns-clause-resident : goal.returns-clause-resident
+returns-clause-resident c = λ _ r.
+    let m = model c.args.self.now in
+    let p = c.args.page in
+    let l = c.args.leaving in
+    let after = steps m _ _ _ _ p l c.forget-known.ensures.after c.forget-known.ensures.answer c.let_out.ensures c.let_in.ensures in
+    ap (λ (n : Model). resident n r) after ∙ admitted-resident m p l c.args.self.now.once (leaves (resident m) (size m) m.bound p l (sym c.takes.ensures ∙ c.if-not-takes.false)) r
+
+pub returns-clause-size : goal.returns-clause-size
+returns-clause-size c = λ _.
+    let m = model c.args.self.now in
+    let p = c.args.page in
+    let l = c.args.leaving in
+    let after = steps m _ _ _ _ p l c.forget-known.ensures.after c.forget-known.ensures.answer c.let_out.ensures c.let_in.ensures in
+    ap size after ∙ admitted-size m p l (leaves (resident m) (size m) m.bound p l (sym c.takes.ensures ∙ c.if-not-takes.false))
