@@ -5,7 +5,8 @@ use crate::line::{Line, look};
 use device::Device;
 use std::alloc::{AllocError, Global};
 
-// Takes stock of a volume, page by page.
+// Takes stock of a volume, page by page. A loop, since each look may alter the volume, and a proof does not
+// follow what a closure alters.
 pub fn take_stock<D: Device>(
     heap: Global,
     volume: &mut D,
