@@ -28,7 +28,7 @@ impl Block {
         Block { last: t, ..self }
     }
 
-    // Whether this page is to leave before another.
+    // Whether this page is to leave before another: not the order of the fields, which a derive would take.
     fn before(self, other: Block) -> bool
         ensures { result ≡ before self other }
     {

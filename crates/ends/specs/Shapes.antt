@@ -1,6 +1,7 @@
 -- The rows of the two ends have the shape that every device owes.
 use Rattle.std.specs.Prelude.{◌≡◌, ℕ, ◌<◌, Bool, true, false, cond, List, length, is_some, Some, None, nat_lt, refl}
-use Rattle.std.proofs.Common.{arith, length-take, length-drop, ltb-true}
+use Rattle.std.proofs.Common.{arith, length-take, length-drop, ltb-true, lt-ltb}
+use Rattle.std.proofs.lemmas.Bool.{cond-true}
 use Rattle.device.specs.declared.device.Device as device
 use Rattle.device.specs.Row.{Page, sound, worn}
 use Rattle.device.specs.Shape.{Shaped, Whole}
@@ -27,17 +28,29 @@ shaped_by n p w = record {
   whole = λ k. whole_if (nat_lt k (pages_in n)) (p k) (λ e. w k (ltb-true k (pages_in n) e));
 }
 
+pub memory_shaped : (bs : List ℕ) → Shaped (pages_in (length bs)) (memory_row bs)
+memory_shaped bs = shaped_by (length bs) (λ k. sound (page_of bs k)) (length-page bs)
+
+pub archive_shaped : (bs : List ℕ) → Shaped (pages_in (length bs)) (archive_row bs)
+archive_shaped bs = shaped_by (length bs) (λ k. worn (made k) (page_of bs k)) (length-page bs)
+
+pub memory_there : (bs : List ℕ) (k : ℕ) → k < pages_in (length bs) → memory_row bs k ≡ Some (sound (page_of bs k))
+memory_there bs k h = cond-true (nat_lt k (pages_in (length bs))) (Some (sound (page_of bs k))) None (lt-ltb k (pages_in (length bs)) h)
+
+pub archive_there : (bs : List ℕ) (k : ℕ) → k < pages_in (length bs) → archive_row bs k ≡ Some (worn (made k) (page_of bs k))
+archive_there bs k h = cond-true (nat_lt k (pages_in (length bs))) (Some (worn (made k) (page_of bs k))) None (lt-ltb k (pages_in (length bs)) h)
+
 -- What a memory and an archive mean, by the bytes that they stand on.
 abbrev pub memory_of : device.Ghosts Memory
 memory_of = record {
   size = λ s. pages_in (length s.bytes.now);
   row = λ s. memory_row s.bytes.now;
-  shaped = λ s. shaped_by (length s.bytes.now) (λ k. sound (page_of s.bytes.now k)) (length-page s.bytes.now);
+  shaped = λ s. memory_shaped s.bytes.now;
 }
 
 abbrev pub archive_of : device.Ghosts Archive
 archive_of = record {
   size = λ s. pages_in (length s.bytes.now);
   row = λ s. archive_row s.bytes.now;
-  shaped = λ s. shaped_by (length s.bytes.now) (λ k. worn (made k) (page_of s.bytes.now k)) (length-page s.bytes.now);
+  shaped = λ s. archive_shaped s.bytes.now;
 }

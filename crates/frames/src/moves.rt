@@ -11,7 +11,8 @@ use device::Device;
 use page::Refusal;
 
 impl Frames {
-    // One grant of a kind more for the page at a place.
+    // One grant of a kind more for the page at a place. It and unpin are two lines each: one call for both
+    // would take the change as a closure, and say less.
     pub fn pin(&mut self, place: Place, kind: Kind)
         ensures used { self.new.used ≡ self.old.used }
         ensures frames { (j : ℕ) → frame_at self.new j ≡ with (frame_at self.old) place.index (with_slot (frame_at self.old place.index) (pinned_of kind (frame_at self.old place.index).slot)) j }

@@ -8,7 +8,8 @@ use crate::place::place_of;
 use page::Refusal;
 
 // The records of a slice below a length, the most recent at the head. What the slice holds from the
-// length on is free in value: it is all that the contracts below leave open.
+// length on is free in value: it is all that the contracts below leave open. The rules ask for a list over
+// the slice of a caller, so a length stands beside it.
 #[derive(Drop)]
 pub struct Recency<'a, T: Keyed> {
     records: &'a mut [T],

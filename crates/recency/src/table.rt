@@ -7,7 +7,8 @@ use crate::place::place_of;
 use std::marker::Model;
 
 // A list of at most N records in an array of its own, from its head. Contracts see the list. Each call
-// that alters its order lends the array to a recency list.
+// that alters its order lends the array to a recency list, which wants the free places too: an ArrayVec has
+// none to lend.
 #[derive(Drop)]
 pub struct Table<T, const N: usize> {
     records: [T; N],

@@ -35,7 +35,8 @@ impl TwoQ {
         self.am.contains(page) || self.a1in.contains(page)
     }
 
-    // Whether a page may come in and the leaving one, if any, go out.
+    // Whether a page may come in and the leaving one, if any, go out. The same words stand in lru_two: a trait
+    // for both, with `has` and `is_full` and their laws, would be longer than the two.
     pub(crate) fn takes(&self, page: u32, leaving: Option<u32>) -> bool
         ensures { result ≡ accepts (resident (model self.now)) (size (model self.now)) (model self.now).bound page leaving }
     {

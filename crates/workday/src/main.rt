@@ -67,6 +67,7 @@ fn run(rt: &HostRuntime) -> Result<(), Problem> {
     Ok(())
 }
 
+// Each program names itself and what did not happen: a function for all would take both as texts.
 fn main(rt: HostRuntime) -> anyhow::Result<()> {
     if let Err(problem) = run(&rt) {
         eprintln!(rt; "register: {problem}")?;
