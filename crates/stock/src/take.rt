@@ -5,8 +5,7 @@ use crate::line::{Line, look};
 use device::Device;
 use std::alloc::{AllocError, Global};
 
-// Takes stock of a volume, page by page. A loop, since each look may alter the volume, and a proof does not
-// follow what a closure alters.
+// Takes stock of a volume, page by page.
 pub fn take_stock<D: Device>(
     heap: Global,
     volume: &mut D,
