@@ -26,6 +26,7 @@ pub fn settle<D: Device, P: Policy>(
     let first: UpdateGrant = pool
         .fix(batch.page)
         .map_err(|refusal| Fault::Refused(batch.page, refusal))?;
+    // A match, since the first grant has to be spent before the fault is returned.
     let second: UpdateGrant = match pool.fix(fee.page) {
         Ok(grant) => grant,
         Err(refusal) => {
