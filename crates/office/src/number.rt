@@ -19,6 +19,7 @@ pub fn read_number(digits: &[u8]) -> Option<u32>
         return None;
     }
     let mut number = 0;
+    // As a try_fold it got no proof by search, and the chain would be no shorter.
     for byte in digits {
         number = with_digit(number, *byte)?;
     }
