@@ -11,12 +11,12 @@ use Rattle.pool.specs.Meaning.{book, held, shown}
 use Rattle.pool.specs.Tied.{Stands}
 use Rattle.pool.specs.declared.pool.Pool.{Pool}
 
-some_shown : (f : Option Frame) (o : Option Page) → is_some (shown f o) ≡ is_some o
+pub some_shown : (f : Option Frame) (o : Option Page) → is_some (shown f o) ≡ is_some o
 some_shown None o = refl
 some_shown (Some f) None = refl
 some_shown (Some f) (Some p) = refl
 
-whole_shown : (f : Option Frame) (o : Option Page) → Stands f o → Whole o → Whole (shown f o)
+pub whole_shown : (f : Option Frame) (o : Option Page) → Stands f o → Whole o → Whole (shown f o)
 whole_shown None o h w = w
 whole_shown (Some f) None h w = absurd h
 whole_shown (Some f) (Some (sound bs)) h w = h.0
