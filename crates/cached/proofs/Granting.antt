@@ -1,14 +1,12 @@
 -- The fix with which an accepted call begins.
-use Rattle.std.proofs.Common.{◌≡◌, ℕ, ◌<◌, Some, None, Ok, Err, Option, Result, sym, refl, ap, ◌∙◌, subst}
+use Rattle.std.proofs.Common.{◌≡◌, ℕ, None, Ok, Err, Result, sym, refl, ap, ◌∙◌, subst}
 use Rattle.page.specs.declared.refusal.Refusal.{Refusal}
 use Rattle.page.specs.declared.refusal.Refusal.TheVariants.{ClockFull}
 use Rattle.device.specs.declared.device.Device as device
 use Rattle.policy.specs.declared.policy.Policy as policy
-use Rattle.book.specs.Book.{Book, refusal}
-use Rattle.book.specs.Call.{Answer}
+use Rattle.book.specs.Book.{refusal}
 use Rattle.book.specs.Call.Call.{Fix}
 use Rattle.book.specs.Call.Answer.{Granted, Refused}
-use Rattle.book.specs.declared.grant.Kind.{Kind}
 use Rattle.book.specs.declared.grant.Ticket.{Ticket}
 use Rattle.pool.specs.Did.{Did, DidRenew, Gives, given, granted, ticket}
 use Rattle.pool.specs.Meaning.{book}

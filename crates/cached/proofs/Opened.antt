@@ -1,5 +1,5 @@
 -- A cached device at its opening.
-use Rattle.std.proofs.Common.{◌≡◌, ℕ, ap}
+use Rattle.std.proofs.Common.{ℕ, ap}
 use Rattle.device.specs.declared.device.Device as device
 use Rattle.policy.specs.declared.policy.Policy as policy
 use Rattle.book.specs.Book.{Book, grants}

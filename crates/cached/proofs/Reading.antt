@@ -1,5 +1,5 @@
 -- A page that is read between a fix and its unfix.
-use Rattle.std.proofs.Common.{◌≡◌, ℕ, ◌+◌, List, length, take, drop, is_some, true, Some, None, Ok, Err, Option, Result, sym, refl, ap, ◌∙◌, subst, arith}
+use Rattle.std.proofs.Common.{◌≡◌, ℕ, ◌+◌, List, length, take, drop, Some, None, Ok, Err, Option, Result, sym, refl, ap, ◌∙◌, subst, arith}
 use Rattle.std.proofs.lemmas.List.{take_all}
 use Rattle.std.proofs.lemmas.Bool.{le-leb}
 use Rattle.page.specs.declared.refusal.Refusal.{Refusal}
@@ -7,11 +7,11 @@ use Rattle.device.specs.Row.{Page, sound, worn, lost, Row, read_at, filled_at}
 use Rattle.device.specs.Shape.{Whole}
 use Rattle.device.specs.declared.device.Device as device
 use Rattle.policy.specs.declared.policy.Policy as policy
-use Rattle.book.specs.Book.{Book, is_granted, refusal, grants, with_grants, accepted}
+use Rattle.book.specs.Book.{Book, is_granted, refusal, grants}
 use Rattle.book.specs.Bytes.{bytes_at}
 use Rattle.book.specs.Call.{Answer}
-use Rattle.book.specs.Call.Call.{Fix, Read, Unfix}
-use Rattle.book.specs.Call.Answer.{Granted, Copied, Done}
+use Rattle.book.specs.Call.Call.{Read, Unfix}
+use Rattle.book.specs.Call.Answer.{Copied}
 use Rattle.book.specs.declared.grant.Kind.{Kind}
 use Rattle.book.specs.declared.grant.Kind.TheVariants.{Reading, Updating}
 use Rattle.book.specs.declared.grant.Ticket.{Ticket}

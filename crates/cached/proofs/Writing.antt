@@ -1,11 +1,11 @@
 -- A page that is written between a fix and its unfix.
-use Rattle.std.proofs.Common.{◌≡◌, ℕ, ◌+◌, ◌≤◌, Bool, cond, eqb, List, [], ◌∷◌, ◌++◌, length, take, drop, Some, None, Ok, Err, Option, Result, sym, refl, ap, ◌∙◌, subst, arith}
+use Rattle.std.proofs.Common.{◌≡◌, ℕ, ◌+◌, ◌≤◌, cond, eqb, List, [], ◌∷◌, ◌++◌, length, take, drop, None, Ok, Err, Option, Result, sym, refl, ap, ◌∙◌, subst, arith}
 use Rattle.std.proofs.lemmas.List.{append-nil, drop_all}
 use Rattle.page.specs.declared.refusal.Refusal.{Refusal}
-use Rattle.device.specs.Row.{Page, Row, written, over_at, write_at}
+use Rattle.device.specs.Row.{Page, Row, written, over_at}
 use Rattle.device.specs.declared.device.Device as device
 use Rattle.policy.specs.declared.policy.Policy as policy
-use Rattle.book.specs.Book.{Book, is_granted, accepted}
+use Rattle.book.specs.Book.{Book, is_granted}
 use Rattle.book.specs.Bytes.{bytes_at, patched}
 use Rattle.book.specs.Call.{Answer}
 use Rattle.book.specs.Call.Call.{Write, Unfix}

@@ -1,5 +1,5 @@
 -- What a cached device shows, and that it has the shape that every device owes.
-use Rattle.std.specs.Prelude.{◌≡◌, ℕ, length, is_some, Some, None, Option, refl}
+use Rattle.std.specs.Prelude.{◌≡◌, is_some, Some, None, Option, refl}
 use Rattle.std.proofs.Common.{◌∙◌}
 use Rattle.device.specs.declared.device.Device as device
 use Rattle.policy.specs.declared.policy.Policy as policy

@@ -1,6 +1,4 @@
-use Rattle.std.proofs.Common.{ap}
 use Rattle.book.specs.declared.grant.Kind.TheVariants.{Reading}
-use Rattle.pool.specs.Meaning.{book}
 use Rattle.cached.proofs.Reading.{read_page, page_long, told}
 use Rattle.cached.proofs.through.read_through.Goals as goal
 
