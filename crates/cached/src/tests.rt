@@ -1,8 +1,9 @@
 use crate::Cached;
 use defects::{Defect, DefectList};
-use device::Device;
+use device::{Device, write_then_read};
 use ends::Memory;
 use layers::Window;
+use lru_two::LruTwo;
 use page::{Origin, Refusal, State};
 use policy::FrameCount;
 use std::test::Fail;
@@ -33,9 +34,9 @@ fn the_last_time_is_passed(rt: HostRuntime) -> Result<(), Fail> {
     assert_eq!(rt; again, (0, 2));
     assert_eq!(rt; absent, Err(Refusal::NoSuchPage));
     assert_eq!(rt; buffer[511], 1);
-    assert_eq!(rt; back[0], 1);
-    assert_eq!(rt; back[512], 2);
-    assert_eq!(rt; back[1024], 7);
+    assert_eq!(rt; back.get(0).copied(), Some(1));
+    assert_eq!(rt; back.get(512).copied(), Some(2));
+    assert_eq!(rt; back.get(1024).copied(), Some(7));
     Ok(())
 }
 
@@ -61,7 +62,7 @@ fn a_refusal_renews_nothing(rt: HostRuntime) -> Result<(), Fail> {
     assert!(rt; still);
     assert_eq!(rt; report, (0, 1));
     assert_eq!(rt; held, 1);
-    assert_eq!(rt; back[1023], 7);
+    assert_eq!(rt; back.get(1023).copied(), Some(7));
     Ok(())
 }
 
@@ -81,8 +82,7 @@ fn a_pile_with_a_cached_device(rt: HostRuntime) -> Result<(), Fail> {
     let write_worn = pile.write(2, &[3; 512]);
     let read_worn = pile.read(2, &mut buffer);
     let worn_byte = buffer[0];
-    let wrote = pile.write(3, &[4; 512]);
-    let read = pile.read(3, &mut buffer);
+    let both = write_then_read(&mut pile, 3, &[4; 512], 3, &mut buffer);
     let cached = pile.into_below();
     let report = cached.report();
     let memory = cached.close().into_below();
@@ -101,11 +101,40 @@ fn a_pile_with_a_cached_device(rt: HostRuntime) -> Result<(), Fail> {
     );
     assert_eq!(rt; read_worn, Ok(()));
     assert_eq!(rt; worn_byte, 7);
-    assert_eq!(rt; wrote, Ok(()));
-    assert_eq!(rt; read, Ok(()));
+    assert_eq!(rt; both, (Ok(()), Ok(())));
     assert_eq!(rt; buffer[9], 4);
     assert_eq!(rt; report, (1, 2));
-    assert_eq!(rt; back[2048], 4);
-    assert_eq!(rt; back[2047], 7);
+    assert_eq!(rt; back.get(2048).copied(), Some(4));
+    assert_eq!(rt; back.get(2047).copied(), Some(7));
+    Ok(())
+}
+
+// A cached device over another, under two policies: both are closed, the upper one first.
+#[test]
+fn one_over_another(rt: HostRuntime) -> Result<(), Fail> {
+    let mut bytes = [7u8; 2048];
+    let mut list = DefectList::new(Memory::new(&mut bytes));
+    let worn = list.mark(1, Defect::Worn);
+    let frames = FrameCount::new(4)?;
+    let below = Cached::open_at(list, LruTwo::new(frames, 2), 1, u32::MAX);
+    let mut cached = Cached::open_at(below, TwoQ::new(frames), 2, u32::MAX);
+    let mut buffer = [0u8; 512];
+    let write_worn = cached.write(1, &[3; 512]);
+    let both = write_then_read(&mut cached, 2, &[4; 512], 2, &mut buffer);
+    let report = cached.report();
+    let below = cached.close();
+    let report_below = below.report();
+    let back = below.close().into_below().into_bytes();
+    assert_eq!(rt; worn, Ok(()));
+    assert_eq!(rt;
+        write_worn,
+        Err(Refusal::WornPage(Origin { page: 1, depth: 2 }))
+    );
+    assert_eq!(rt; both, (Ok(()), Ok(())));
+    assert_eq!(rt; buffer[511], 4);
+    assert_eq!(rt; report, (1, 1));
+    assert_eq!(rt; report_below, (1, 1));
+    assert_eq!(rt; back.get(1023).copied(), Some(7));
+    assert_eq!(rt; back.get(1024).copied(), Some(4));
     Ok(())
 }
