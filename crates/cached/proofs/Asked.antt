@@ -14,7 +14,7 @@ use Rattle.pool.specs.Meaning.{book, held as held_in}
 use Rattle.pool.specs.declared.pool.Pool.{Pool}
 use Rattle.cached.specs.Idle.{Idle}
 use Rattle.cached.specs.Shown.{some_shown}
-use Rattle.cached.specs.Through.{answer_at}
+use Rattle.cached.specs.Steps.{answer_at}
 
 -- the device's answer, and then whether the clock is not full
 then_clock : Result (Unit {0}) Refusal → Bool → Option Refusal

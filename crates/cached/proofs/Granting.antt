@@ -16,7 +16,8 @@ use Rattle.pool.specs.declared.purpose.Purpose as purpose
 use Rattle.pool.proofs.Places.{some-none}
 use Rattle.book.proofs.Asked.{fixed}
 use Rattle.cached.specs.Idle.{Idle}
-use Rattle.cached.specs.Through.{answer_at, grant_of, Begins, DidGrant}
+use Rattle.cached.specs.Steps.{answer_at, DidGrant}
+use Rattle.cached.specs.Through.{grant_of, Begins}
 use Rattle.cached.proofs.Asked.{as-accepted, as-refused, at_last, in_time}
 use Rattle.cached.proofs.Beginning.{begins_here, begins_renewed, renewed, renewed-clock}
 use Rattle.cached.proofs.Granted.{fix-accepted, fix-refused, after-refusal}

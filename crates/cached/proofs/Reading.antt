@@ -23,7 +23,8 @@ use Rattle.pool.proofs.Doings.{says-accepted}
 use Rattle.pool.proofs.Working.{two-yes}
 use Rattle.cached.specs.Idle.{Idle}
 use Rattle.cached.specs.Shown.{whole_shown}
-use Rattle.cached.specs.Through.{answer_at, grant_of, Fixes, ReadThrough, DidReadThrough}
+use Rattle.cached.specs.Steps.{answer_at, DidReadThrough}
+use Rattle.cached.specs.Through.{grant_of, Fixes, ReadThrough}
 use Rattle.cached.proofs.Beginning.{Begun, begun}
 use Rattle.cached.proofs.Granted.{Same, More, more, more-out, undone, answer-accepted, after-fix, after_unfix, unfix-yes}
 

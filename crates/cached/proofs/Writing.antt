@@ -16,7 +16,8 @@ use Rattle.pool.specs.Did.{Did, done}
 use Rattle.pool.specs.Meaning.{book}
 use Rattle.pool.specs.declared.pool.Pool.{Pool}
 use Rattle.cached.specs.Idle.{Idle}
-use Rattle.cached.specs.Through.{answer_at, grant_of, Fixes, WriteThrough, DidWriteThrough}
+use Rattle.cached.specs.Steps.{answer_at, DidWriteThrough}
+use Rattle.cached.specs.Through.{grant_of, Fixes, WriteThrough}
 use Rattle.cached.proofs.Granted.{Same, more-out, undone, answer-accepted, after_write, after_unfix, write-yes, unfix-yes}
 use Rattle.cached.proofs.Reading.{none_left, after_fixes}
 

@@ -1,5 +1,5 @@
 ghost use Rattle.cached.specs.Idle.{Idle};
-ghost use Rattle.cached.specs.Through.{DidGrant, DidReadThrough, DidWriteThrough};
+ghost use Rattle.cached.specs.Steps.{DidGrant, DidReadThrough, DidWriteThrough};
 
 use device::Device;
 use page::Refusal;
