@@ -1,0 +1,4 @@
+pub mod Idle
+pub mod Shown
+pub mod Steps
+pub mod Through
