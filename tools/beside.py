@@ -37,6 +37,17 @@ def statements(root):
     return found
 
 
+def stated(found):
+    """Definitions with their text; of a lemma the statement alone."""
+    out = {}
+    for (crate, name), texts in found.items():
+        for text in texts:
+            if not re.match(r"(pub )?(abbrev|unfoldable|opaque|record|data)\b", text):
+                text = re.split(r"\s" + re.escape(name) + r"(?=\s[^:]*=|\s*=)", text)[0]
+            out.setdefault((crate, name), []).append(text.strip())
+    return out
+
+
 def block(title, rows):
     if rows:
         print(f"\n### {title}\n\n```diff")
@@ -56,9 +67,13 @@ def main():
     r = contracts.compare(old, new)
     clause = lambda kind, c: f"{kind}{' ' + c[0] if c[0] else ''} {{ {c[1]} }}"
     rows = []
+    _, of, og, os_, _, _ = contracts.read(old)
+    _, nf, ng, ns, _, _ = contracts.read(new)
+    public = {" ".join(p for p in k if p) for k, v in of.items() if any(x["pub"] for x in v)}
     for name, a, b in r["signatures changed"]:
-        rows += pair(name, [a], [b])
-    block("Signatures", rows)
+        if name in public:
+            rows += pair(name, [a], [b])
+    block("Public signatures", rows)
     rows = []
     for name, req, ens, req2, ens2 in r["contracts changed"]:
         rows += pair(
@@ -67,8 +82,6 @@ def main():
             [clause("requires", c) for c in req2] + [clause("ensures", c) for c in ens2],
         )
     block("Clauses", rows)
-    _, of, og, os_, _, _ = contracts.read(old)
-    _, nf, ng, ns, _, _ = contracts.read(new)
     plain = lambda f: {(k[0], k[1], k[2], k[3]): x for k, v in f.items() for x in v if not x["test"] and not x["in tests"]}
     olds, news = plain(of), plain(nf)
     rows = []
@@ -85,11 +98,11 @@ def main():
             rows.append(f"+ {' '.join(p for p in key if p)}{x['sign']}")
             rows += [f"+     {clause('requires', c[1:])}" for c in x["requires"]] + [f"+     {clause('ensures', c[1:])}" for c in x["ensures"]]
     block("Functions that are new", rows)
-    for title, a, b in (("Ghost items and constants", og, ng), ("Definitions", os_, ns), ("Lemmas in proofs/", statements(old), statements(new))):
+    for title, a, b in (("Ghost items and constants", og, ng), ("Definitions and laws of specs/", stated(os_), stated(ns)), ("Lemmas in proofs/", statements(old), statements(new))):
         rows = []
         for key in sorted(set(a) | set(b)):
             x, y = a.get(key, []), b.get(key, [])
-            if sorted(x) != sorted(y):
+            if sorted(x) != sorted(y) and (x or title != "Lemmas in proofs/"):
                 rows += pair(" ".join(key), x, y)
         block(title, rows)
 

@@ -1,7 +1,7 @@
 use recency::Keyed;
 
 // The history block of a page: the time of its last uncorrelated reference, the time of the one
-// before that, and the time of its last reference of any kind. 0 means none.
+// before that, and the time of its last reference of any kind. 0 means none, as the rules say.
 #[derive(Clone, Copy, PartialEq, Eq, Debug)]
 pub struct Block {
     pub page: u32,

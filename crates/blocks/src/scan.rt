@@ -36,7 +36,8 @@ impl Block {
     }
 }
 
-// Whether a page may leave: it is listed and, where a period is given, outside it.
+// Whether a page may leave: it is listed and, where a period is given, outside it. No closure stands for the
+// period, since both clauses of the scan name it.
 fn candidate(block: Block, listed: &[u32], period: Option<u16>, t: u32) -> bool
     ensures { result ≡ is_candidate listed.now period t block }
 {
@@ -49,7 +50,8 @@ fn candidate(block: Block, listed: &[u32], period: Option<u16>, t: u32) -> bool
     }
 }
 
-// Of the best block so far, if any, and another, the one that is to leave first.
+// Of the best block so far, if any, and another, the one that is to leave first: two cases, which a map_or
+// would not make plainer.
 fn lesser(best: Option<Block>, block: Block) -> Block
     ensures { result ≡ lesser_of best block }
 {

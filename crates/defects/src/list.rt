@@ -67,6 +67,7 @@ impl<D: Device> Device for DefectList<D> {
         Ok(worse(mark_of(&self.marks, page), page, state.deeper()))
     }
 
+    // A read asks one question of the state and a write two: in one function they would be no plainer.
     fn read(&mut self, page: u32, buffer: &mut [u8; 512]) -> Result<(), Refusal> {
         if let State::Lost(origin) = self.state(page)? {
             return Err(Refusal::LostPage(origin));

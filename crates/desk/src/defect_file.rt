@@ -27,6 +27,7 @@ impl DefectFile {
         ensures { MatchResult result (Parsed name (marks_in (map (λ l. l.now) lines.now))) (Unparsed name (marks_in (map (λ l. l.now) lines.now))) }
     {
         let mut marks = Vec::new(heap);
+        // A loop, since the file's name moves into the problem of the first bad line.
         for (before, words) in lines.iter().enumerate() {
             let line = before + 1;
             let Ok(read) = read_defect_line(words.as_bytes()) else {
@@ -35,6 +36,7 @@ impl DefectFile {
             if let Some(mark) = read {
                 marks
                     .push(LineMark { line, mark })
+                    // A push fails for memory alone; the derived From has no contract for the proof.
                     .map_err(|_full| BookProblem::Memory(AllocError))?;
             }
         }

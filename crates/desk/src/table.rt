@@ -57,6 +57,22 @@ impl fmt::Display for Row<'_> {
     }
 }
 
+// The lines of a stock, one under another.
+#[derive(Clone, Copy)]
+struct Rows<'a> {
+    lines: &'a [Line],
+}
+
+impl fmt::Display for Rows<'_> {
+    fn fmt<W: fmt::Write>(&self, f: &mut fmt::Formatter<W>) -> fmt::Result {
+        for line in self.lines {
+            let row = Row { line };
+            writeln!(f, "{row}")?;
+        }
+        Ok(())
+    }
+}
+
 // The totals of one book. A sum of more than 128 bits is not told.
 #[derive(Clone, Copy)]
 struct Totals<'a> {
@@ -108,13 +124,10 @@ impl fmt::Display for Table<'_> {
             f,
             "  page  book    state   origin  depth  records  malformed         cents  refusal"
         )?;
-        for line in lines {
-            let row = Row { line };
-            writeln!(f, "{row}")?;
-        }
+        let rows = Rows { lines };
         writeln!(
             f,
-            "\ntotals           pages       records     malformed         cents      refusals"
+            "{rows}\ntotals           pages       records     malformed         cents      refusals"
         )?;
         for book in BOOKS {
             let totals = Totals { lines, book };

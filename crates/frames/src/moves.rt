@@ -10,6 +10,7 @@ use book::Kind;
 use device::Device;
 use page::Refusal;
 
+// What a call leaves as it was is said of the frames before and after, which no invariant of one value can.
 impl Frames {
     // One grant of a kind more for the page at a place. It and unpin are two lines each: one call for both
     // would take the change as a closure, and say less.

@@ -18,7 +18,7 @@ impl Frames {
         Some(Place { index })
     }
 
-    // The first free place below a bound.
+    // The first free place below a bound. A place is made behind the test that bounds it, here and in nth.
     pub fn spare(&self, bound: FrameCount) -> Option<Place>
         ensures { Spare self.now.used bound.value result }
     {
@@ -35,6 +35,7 @@ impl Frames {
         ensures { result.items ≡ idle_in self.now.used (frame_at self.now) }
     {
         let mut pages = ArrayVec::new();
+        // A loop, since a collect may fail.
         for slot in &self.slots[..self.used] {
             if slot.is_idle() {
                 pages.push(slot.page);

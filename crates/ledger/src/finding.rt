@@ -8,7 +8,7 @@ use policy::Policy;
 use pool::Pool;
 use records::{BatchRecord, FeeRecord, record_at};
 
-// Which book a record is of.
+// Which book a record is of: a value and no type, since the definitions of a search take the book as one.
 #[derive(Clone, Copy, PartialEq, Eq, Debug)]
 pub enum Kept {
     Batches,
@@ -40,6 +40,7 @@ fn number_in(kept: Kept, bytes: &[u8; 32]) -> Option<u32>
 fn stands_at(kept: Kept, page: &[u8; 512], place: u8, number: u32) -> bool
     ensures { result ≡ (nat_lt place 16 && stands_at kept page.now place number) }
 {
+    // As one and_then it got no proof: what the record at a place past the last is equal to stayed open.
     let Some(bytes) = record_at(page, place as usize) else {
         return false;
     };
@@ -67,7 +68,7 @@ fn find_on<D: Device, P: Policy>(
     place_in(kept, &bytes, number)
 }
 
-// Where a batch stands in the pages of a shelf, of those that can be read. A loop, since a proof does not
+// Where a batch stands in the pages of a shelf, of those that can be read. A loop, since the search of a proof does not
 // follow what a closure alters, and each page read alters the pool.
 pub fn find<D: Device, P: Policy>(pool: &mut Pool<D, P>, shelf: Shelf, number: u32) -> Option<Spot>
     ensures { DidFind pool.old shelf number result pool.new }

@@ -28,6 +28,7 @@ pub fn settle_number<D: Device, P: Policy>(
         first: 0,
         end: shelves.fees_from,
     };
+    // No ok_or: what each search answers is then a case that the proof has by its name.
     let Some(batch) = find(pool, batches, number) else {
         return Err(Fault::NoBatch);
     };

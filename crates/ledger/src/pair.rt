@@ -12,6 +12,9 @@ use policy::Policy;
 use pool::Pool;
 use records::{Batch, BatchRecord, Fee, FeeRecord, Fields, Record};
 
+// That a grant is out is a fact of pool and grant together, which the type of neither can carry: so it is a
+// premise of the private functions below.
+
 // The 32 bytes at a place of the grant's page.
 fn look<D: Device, P: Policy>(pool: &Pool<D, P>, held: Held<'_>) -> Result<[u8; 32], Fault>
     ensures { GrantOut pool.now held.entry → result ≡ seen_at (book pool.now).pages (spot_of held.entry).page (spot_of held.entry).place }
@@ -26,11 +29,10 @@ fn look<D: Device, P: Policy>(pool: &Pool<D, P>, held: Held<'_>) -> Result<[u8; 
 fn entered<T: Fields>(page: u32, bytes: &[u8; 32], empty: Fault, settled: Fault) -> Result<T, Fault>
     ensures { result ≡ open_record empty settled page (record_of T.STATUS T.read bytes.now) }
 {
-    match Record::<T>::decode(bytes) {
-        Ok(Record::Entered(fields)) => Ok(fields),
-        Ok(Record::Settled(_)) => Err(settled),
-        Ok(Record::Empty) => Err(empty),
-        Err(malformed) => Err(Fault::Malformed(page, malformed)),
+    match Record::<T>::decode(bytes).map_err(|malformed| Fault::Malformed(page, malformed))? {
+        Record::Entered(fields) => Ok(fields),
+        Record::Settled(_) => Err(settled),
+        Record::Empty => Err(empty),
     }
 }
 

@@ -34,15 +34,15 @@ pub fn settle<D: Device, P: Policy>(
             return Err(Fault::Refused(fee.page, refusal));
         }
     };
-    let x = Held {
+    let batch_held = Held {
         grant: &first,
         place: batch.place,
     };
-    let y = Held {
+    let fee_held = Held {
         grant: &second,
         place: fee.place,
     };
-    let settled = settle_pair(pool, number, x, y);
+    let settled = settle_pair(pool, number, batch_held, fee_held);
     let _ = pool.unfix(second);
     let _ = pool.unfix(first);
     settled

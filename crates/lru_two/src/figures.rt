@@ -1,6 +1,7 @@
 ghost use Rattle.lru_two.specs.Figures.{Figures};
 
-// How many frames the worked cases have. Its theorem is of this policy alone. The worked cases hold, with this number.
+// How many frames the worked cases have. The worked cases hold, with this number: a theorem of this policy
+// alone.
 pub fn frames_of_cases() -> u32
     ensures { Figures result }
 {

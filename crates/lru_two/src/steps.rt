@@ -23,18 +23,12 @@ impl LruTwo {
         self.blocks.len() >= self.frames.value() as usize
     }
 
-    // Whether a page may come in and the leaving one, if any, go out. The same words stand in two_q: a trait
-    // for both, with `has` and `is_full` and their laws, would be longer than the two.
+    // Whether a page may come in and the leaving one, if any, go out. The line stands in two_q too,
+    // over its own `has` and `is_full`.
     pub(crate) fn takes(&self, page: u32, leaving: Option<u32>) -> bool
         ensures { result ≡ accepts (resident (model self.now)) (size (model self.now)) (model self.now).bound page leaving }
     {
-        if self.has(page) {
-            return false;
-        }
-        match leaving {
-            Some(gone) => self.has(gone),
-            None => !self.is_full(),
-        }
+        !self.has(page) && leaving.map_or(!self.is_full(), |gone| self.has(gone))
     }
 
     // A hit of a resident page.

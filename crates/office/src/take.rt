@@ -41,6 +41,7 @@ pub fn stock_of(
 ) -> Result<Vec<Line>, StockFault>
     ensures { MatchResult result (Taken batch.old fees.old archive.now marks.now) (NotTaken batch.old marks.now) }
 {
+    // The same four lines stand in the program that works a volume: stock knows no bytes of books.
     let layout = Layout {
         batch_pages: whole_pages(batch.len()),
         fee_pages: whole_pages(fees.len()),

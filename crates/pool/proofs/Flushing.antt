@@ -12,7 +12,7 @@ use Rattle.frames.specs.Calls.{Absent}
 use Rattle.frames.specs.Table.{Frame, frame, at, page_in}
 use Rattle.turns.specs.Turns.{unless}
 use Rattle.pool.specs.declared.pool.Pool.{Pool}
-use Rattle.pool.specs.Did.{Did, DidClose}
+use Rattle.pool.specs.Did.{Did}
 use Rattle.pool.specs.Meaning.{book, course}
 use Rattle.pool.specs.Steps.{cleaned, DidBack, DidSettle}
 use Rattle.pool.proofs.Doings.{did-refused, no_turn, says-accepted, next-accepted}
@@ -96,12 +96,3 @@ module _ {D P : Type 0} {d : device.Ghosts D} {p : policy.Ghosts P} where
 
   pub flushed-all : (pool pool' : Pool D P d p) → Did pool FlushAll Done pool' → (q : ℕ) → d.row pool'.device q ≡ (book pool).pages q
   flushed-all pool pool' h q = h.doing.step.flushed q (record { accepted = refl; named = refl })
-
-  pub did_close : (pool pool' : Pool D P d p) → Did pool FlushAll Done pool' → DidClose pool pool'.device
-  did_close pool pool' h =
-      let row = flushed-all pool pool' h in
-      record {
-        size = ap (λ (x : Book). x.size) h.doing.step.after;
-        row = row;
-        step = record { answer = refl; after = refl; moved = λ q. inr (row q); flushed = λ q f. row q };
-      }

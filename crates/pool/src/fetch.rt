@@ -8,7 +8,8 @@ use device::Device;
 use frames::Place;
 use policy::Policy;
 
-// The steps by which a page comes into a frame.
+// The steps by which a page comes into a frame. Kind and page stand apart, as in the call that every clause
+// names: a struct of both would be taken apart in each.
 impl<D: Device, P: Policy> Pool<D, P> {
     // A frame for a page to come: a free one, or else that of the page that the policy gives up, of
     // those with no grant out.
@@ -22,6 +23,7 @@ impl<D: Device, P: Policy> Pool<D, P> {
             });
         }
         let idle = self.frames.idle();
+        // The rules ask that a choice is taken apart by let .. else.
         let Some(page) = self.policy.choose(&idle, t) else {
             return None;
         };

@@ -17,7 +17,8 @@ use policy::Policy;
 const MOST_PINS: u32 = 255;
 
 impl<D: Device, P: Policy> Pool<D, P> {
-    // The questions of a fix up to the clock.
+    // The questions of a fix up to the clock. A state is asked them here and in a defect list, each in its own
+    // order of arms: three short matches, which one function would make no plainer.
     fn ask(&self, kind: Kind, page: u32) -> Result<(), Refusal>
         ensures time { Timely result self.now.clock }
         ensures answer { result ≡ verdict (first_no (early (book_of self.now) kind page)) }

@@ -1,4 +1,5 @@
-// Recency lists: records in the order of their last use, over a slice that the caller lends.
+// Recency lists: records in the order of their last use, over a slice that the caller lends; and tables,
+// lists in an array of their own.
 #![tactic(auto)]
 
 mod keyed;

@@ -114,6 +114,9 @@ impl<T: Keyed + Copy, const N: usize> Table<T, N> {
     }
 }
 
+// The three functions below take the array and the length: a method would use the whole table, whose list
+// does not stand while its array is lent.
+
 // Puts a record at the head of the list of the records below a length, and answers the new length. Where
 // all places are taken, the last record drops out.
 fn put_first<T: Keyed + Copy>(records: &mut [T], len: usize, record: T) -> usize

@@ -1,16 +1,9 @@
-use Rattle.std.proofs.Common.{◌≡◌, ℕ, zero, suc, ◌+◌, ◌<◌, ◌≤◌, Bool, true, false, cond, eqb, List, [], ◌∷◌, length, get_or, drop, replicate, sym, refl, ap, ◌∙◌, arith, lit<, length-drop, eqb-true}
+use Rattle.std.proofs.Common.{◌≡◌, ℕ, zero, suc, ◌+◌, ◌<◌, Bool, true, false, cond, eqb, List, [], ◌∷◌, length, get_or, drop, replicate, sym, refl, ap, ◌∙◌, arith, lit<, length-drop, eqb-true}
 use Rattle.std.specs.Bool.{MatchBool}
 use Rattle.std.specs.List.{AllWithin, HoldsAt}
 use Rattle.std.specs.Int.Digits.{AllBelowBase}
-use Rattle.std.proofs.lemmas.List.{at_drop_more, at_drop_all, drop_more}
+use Rattle.std.proofs.lemmas.List.{drop_more}
 use Rattle.records.specs.Little.{blank}
-
--- One byte on, and at the end.
-pub blank-more : (bs : List ℕ) (i : ℕ) → i < length bs → blank (drop i bs) ≡ cond (eqb (get_or bs i 0) 0) (blank (drop (i + 1) bs)) false
-blank-more bs i h = at_drop_more blank bs i 0 h
-
-pub blank-all : (bs : List ℕ) (i : ℕ) → length bs ≤ i → blank (drop i bs) ≡ true
-blank-all bs i h = at_drop_all blank bs i h
 
 -- Bytes that are all zero are so many zeros.
 pub zeros : (bs : List ℕ) → blank bs ≡ true → bs ≡ replicate (length bs) 0

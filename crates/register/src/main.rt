@@ -15,6 +15,7 @@ Takes stock of the volume that the three books make, page by page. DEFECTS is a
 text file: each line marks a page of the batch book, as `3 worn` or `3 lost`;
 blank lines and lines that begin with # are passed over. Nothing is written.";
 
+// The words and the help are read where the usage stands, here as in the other program of an office.
 fn run(rt: &HostRuntime) -> Result<(), Problem> {
     let heap = rt.alloc();
     let words: Vec<String> = env::args(rt)?.skip(1).collect(heap)?;
@@ -24,9 +25,7 @@ fn run(rt: &HostRuntime) -> Result<(), Problem> {
         rt.println(USAGE)?;
         return Ok(());
     }
-    let Some(names) = words.as_slice().as_array::<4>() else {
-        return Err(Problem::Usage);
-    };
+    let names = words.as_slice().as_array::<4>().ok_or(Problem::Usage)?;
     let Books {
         mut batch,
         mut fees,

@@ -3,7 +3,7 @@ use std::alloc::AllocError;
 use std::io;
 use thiserror::Error;
 
-// Why the program could not do its job. Nothing has been written then.
+// Why the program could not do its job. No file has been written then.
 #[derive(Debug, Drop, Error)]
 pub enum Problem {
     #[error("it takes four file names: batch book, fee book, archive, defects (--help says more)")]

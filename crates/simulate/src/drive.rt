@@ -64,7 +64,8 @@ impl Pool {
     }
 }
 
-// The page that has to leave, if the pool is full.
+// The page that has to leave, if the pool is full. Policy and simulator travel together from here on: a struct
+// that lends both got no generated proof.
 fn leaving<P: Policy, S: Simulator<P>>(
     pool: &mut Pool,
     policy: &P,

@@ -5,7 +5,7 @@ use lru_two::LruTwo;
 use policy::FrameCount;
 use std::alloc::{AllocError, Global};
 
-// The simulator shares no type with the policy that it judges; only agrees() looks at blocks.
+// The simulator shares no list and no record with the policy that it judges; only agrees() looks at blocks.
 #[derive(Clone, Copy, PartialEq, Eq)]
 struct History {
     page: u32,

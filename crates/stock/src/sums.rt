@@ -4,7 +4,7 @@ ghost use Rattle.stock.specs.Totals.{measured, share_of, total_of};
 use crate::book::Book;
 use crate::line::Line;
 
-// What can be summed over the lines of a book.
+// What can be summed over the lines of a book: a value and no closure, since a total is defined by it.
 #[derive(Clone, Copy, PartialEq, Eq, Debug)]
 pub enum Measure {
     Pages,

@@ -15,7 +15,7 @@ pub fn take_stock<D: Device>(
 {
     let mut lines = Vec::new(heap);
     let count = volume.count();
-    // Each look alters the volume, and a proof does not follow what a closure alters.
+    // Each look alters the volume, and the search of a proof does not follow what a closure alters.
     for page in 0..count {
         lines.push(look(volume, layout, page))?;
     }

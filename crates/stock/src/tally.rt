@@ -43,6 +43,7 @@ pub fn count_records(book: Book, page: &[u8; 512]) -> Tally
 {
     let mut tally = Tally::default();
     let (records, _) = page.as_chunks::<RECORD>();
+    // A loop, since `with` asks for room in the sums, which a closure could not tell of.
     for record in records {
         tally = tally.with(entry_of(book, record));
     }

@@ -6,7 +6,7 @@ use policy::Policy;
 use pool::Pool;
 use stock::{Layout, Line, count_records};
 
-// Looks at one page of a volume through the pool over it.
+// Looks at one page of a volume through the pool over it: as `look` of stock, but a pool is no device.
 pub fn line_through<D: Device, P: Policy>(pool: &mut Pool<D, P>, layout: Layout, page: u32) -> Line
     ensures { DidLine layout pool.old page result pool.new }
 {

@@ -129,10 +129,6 @@ pub admitted-size : (m : Model) (p : ℕ) (l : Option ℕ) → Leaves (resident 
 admitted-size m p None h = none-size m p
 admitted-size m p (Some q) h = some_size m p q h
 
-pub admitted-bound : (m : Model) (p : ℕ) (l : Option ℕ) → (admitted m p l).bound ≡ m.bound
-admitted-bound m p None = come-bound (forgotten m p) (member p m.a1out) p
-admitted-bound m p (Some q) = some-bound m p q
-
 -- which list is preferred: `xs` and `ys` are the two lists as they were looked at
 pub prefers_a1in : (m : Model) (l xs ys : List ℕ) (r : Option ℕ) → kin m < length m.a1in → r ≡ option_or (nearest_tail l xs) (nearest_tail l ys) → xs ≡ m.a1in → ys ≡ m.am → r ≡ chosen m l
 prefers_a1in m l xs ys r h e p q = e ∙ (λ i. option_or (nearest_tail l (p i)) (nearest_tail l (q i))) ∙ sym (rw (lt-ltb (kin m) (length m.a1in) h))

@@ -7,7 +7,7 @@ ghost use Rattle.two_q.specs.Of.{model};
 use crate::two_q::TwoQ;
 
 impl TwoQ {
-    // How long A1in may grow before its pages leave first.
+    // How long A1in may grow before its pages leave first: of the two lengths that the algorithm names.
     pub(crate) fn kin(&self) -> usize
         ensures { result ≡ kin (model self.now) }
     {
@@ -35,18 +35,12 @@ impl TwoQ {
         self.am.contains(page) || self.a1in.contains(page)
     }
 
-    // Whether a page may come in and the leaving one, if any, go out. The same words stand in lru_two: a trait
-    // for both, with `has` and `is_full` and their laws, would be longer than the two.
+    // Whether a page may come in and the leaving one, if any, go out. The line stands in lru_two too,
+    // over its own `has` and `is_full`.
     pub(crate) fn takes(&self, page: u32, leaving: Option<u32>) -> bool
         ensures { result ≡ accepts (resident (model self.now)) (size (model self.now)) (model self.now).bound page leaving }
     {
-        if self.has(page) {
-            return false;
-        }
-        match leaving {
-            Some(gone) => self.has(gone),
-            None => !self.is_full(),
-        }
+        !self.has(page) && leaving.map_or(!self.is_full(), |gone| self.has(gone))
     }
 
     // Moves a page of Am to its head.

@@ -15,7 +15,7 @@ pub struct MarkRefused {
 pub fn mark_all<D: Device>(list: &mut DefectList<D>, marks: &[Mark]) -> Result<(), MarkRefused>
     ensures { DidMarkAll D.Device list.old marks.now result list.new }
 {
-    // Each mark alters the list, and a proof does not follow what a closure alters.
+    // Each mark alters the list, and the search of a proof does not follow what a closure alters.
     for (at, mark) in marks.iter().enumerate() {
         list.mark(mark.page, mark.defect)
             .map_err(|refusal| MarkRefused { at, refusal })?;

@@ -7,7 +7,8 @@ use policy::Policy;
 use stock::Layout;
 use two_q::TwoQ;
 
-// Volume and layout are handed on together until a session holds both.
+// Volume and layout go on together to the session that holds both.
+
 // Does the commands of the standard input through a pool over a volume, and closes the pool.
 fn through<D: Device + Drop, P: Policy + Drop>(
     rt: &HostRuntime,

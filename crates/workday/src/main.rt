@@ -33,6 +33,7 @@ Commands are read from standard input, one to a line:
 At the end of the commands the books that were altered are written back to their
 files, each as a new file that takes the old one's place.";
 
+// The words and the help are read where the usage stands, here as in the other program of an office.
 fn run(rt: &HostRuntime) -> Result<(), Problem> {
     let heap = rt.alloc();
     let words: Vec<String> = env::args(rt)?.skip(1).collect(heap)?;
@@ -42,9 +43,10 @@ fn run(rt: &HostRuntime) -> Result<(), Problem> {
         rt.println(USAGE)?;
         return Ok(());
     }
-    let Some((names, settings)) = words.as_slice().split_first_chunk::<4>() else {
-        return Err(Problem::Usage);
-    };
+    let (names, settings) = words
+        .as_slice()
+        .split_first_chunk::<4>()
+        .ok_or(Problem::Usage)?;
     let settings = read_settings(settings)?;
     let Books {
         mut batch,

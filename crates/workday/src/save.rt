@@ -3,6 +3,8 @@ use std::fs::File;
 use std::io::Write;
 use std::{fs, io};
 
+// A name and bytes go through the three functions below, as the standard library takes a file.
+
 // Writes the bytes to a file and has them on disk.
 fn put(rt: &HostRuntime, name: &str, bytes: &[u8]) -> io::Result<()> {
     let mut file = File::create(rt, name)?;

@@ -42,7 +42,7 @@ fn read_command(line: &str) -> Result<Option<Command>, NoCommand> {
     command.map(Some).ok_or(NoCommand)
 }
 
-// Why a batch was not settled, in words.
+// Why a batch was not settled, in the words of this program.
 #[derive(Clone, Copy)]
 struct Reason(Fault);
 
