@@ -5,7 +5,8 @@ use ends::Memory;
 use layers::Window;
 use lru_two::LruTwo;
 use page::{Origin, Refusal, State};
-use policy::FrameCount;
+use policy::{FrameCount, Policy};
+use pool::{Pool, ToRead};
 use std::test::Fail;
 use two_q::TwoQ;
 
@@ -136,5 +137,37 @@ fn one_over_another(rt: HostRuntime) -> Result<(), Fail> {
     assert_eq!(rt; report_below, (1, 1));
     assert_eq!(rt; back.get(1023).copied(), Some(7));
     assert_eq!(rt; back.get(1024).copied(), Some(4));
+    Ok(())
+}
+
+// Takes grants out for page 0, one within another, up to a number, and gives them all back. Answers the
+// refusal that was met, if any, and how many were left to take.
+fn hold<D: Device, P: Policy>(pool: &mut Pool<D, P>, left: u32) -> Option<(u32, Refusal)> {
+    if left == 0 {
+        return None;
+    }
+    match pool.fix::<ToRead>(0) {
+        Ok(grant) => {
+            let met = hold(pool, left - 1);
+            let _ = pool.unfix(grant);
+            met
+        }
+        Err(refusal) => Some((left, refusal)),
+    }
+}
+
+#[test]
+fn the_256th_grant_on_a_page_is_refused(rt: HostRuntime) -> Result<(), Fail> {
+    let mut bytes = [7u8; 512];
+    let policy = TwoQ::new(FrameCount::new(4)?);
+    let mut pool = Pool::open(Memory::new(&mut bytes), policy, 1);
+    let met = hold(&mut pool, 300);
+    let again = hold(&mut pool, 255);
+    let report = pool.report();
+    let _ = pool.close();
+    assert_eq!(rt; met, Some((45, Refusal::PageFull)));
+    assert_eq!(rt; Refusal::PageFull.number(), 6);
+    assert_eq!(rt; again, None);
+    assert_eq!(rt; report, (509, 1));
     Ok(())
 }
