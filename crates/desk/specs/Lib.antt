@@ -1,1 +1,2 @@
 pub mod DefectFiles
+pub mod Whole

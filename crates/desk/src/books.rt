@@ -1,3 +1,6 @@
+ghost use Rattle.std.specs.Prelude.{◌≡◌, ◌%◌, IfOk, length};
+ghost use Rattle.desk.specs.Whole.{WholeBooks};
+
 use crate::defect_file::DefectFile;
 use crate::problem::BookProblem;
 use std::{fs, io};
@@ -19,7 +22,9 @@ fn held<T>(name: &String, read: io::Result<T>) -> Result<T, BookProblem> {
 }
 
 // A book: a whole number of pages.
-fn read_book(rt: &HostRuntime, name: &String) -> Result<Vec<u8>, BookProblem> {
+fn read_book(rt: &HostRuntime, name: &String) -> Result<Vec<u8>, BookProblem>
+    ensures { IfOk result (λ book. length book.items % 512 ≡ 0) }
+{
     let bytes = held(name, fs::read(rt, name.as_str()))?;
     if bytes.len() % 512 != 0 {
         return Err(BookProblem::PartPage(name.clone()?, bytes.len()));
@@ -34,8 +39,11 @@ fn read_defects(rt: &HostRuntime, name: &String) -> Result<DefectFile, BookProbl
     DefectFile::parse(heap, name.clone()?, &lines)
 }
 
-// Reads the batch book, the fee book, the archive and the defect file.
-pub fn read_books(rt: &HostRuntime, names: &[String; 4]) -> Result<Books, BookProblem> {
+// Reads the batch book, the fee book, the archive and the defect file. What a file gives is left open, but that each
+// book is a whole number of pages.
+pub fn read_books(rt: &HostRuntime, names: &[String; 4]) -> Result<Books, BookProblem>
+    ensures { IfOk result WholeBooks }
+{
     let [batch, fees, archive, defects] = names;
     Ok(Books {
         batch: read_book(rt, batch)?,

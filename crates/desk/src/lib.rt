@@ -1,5 +1,5 @@
 // What the programs of an office share: its books and its defect file as they are read, and its stock as
-// it is printed. read_books only reads files, and no contract can say what a file gives: it has a test.
+// it is printed. No contract can say what a file gives, but that each book is a whole number of pages; a test shows it read.
 // No contract says what the table looks like either: the text of one stands in a test.
 #![tactic(auto)]
 
