@@ -38,11 +38,7 @@ impl Policy for LruTwo {
     }
 
     fn hit(&mut self, page: u32, t: u32) -> bool {
-        if !self.has(page) {
-            return false;
-        }
-        self.touch(page, t);
-        true
+        self.touch(page, t)
     }
 
     // The choice is also the first page to leave, in the order of HIST2, LAST and page number, of the

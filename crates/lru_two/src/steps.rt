@@ -31,14 +31,17 @@ impl LruTwo {
         !self.has(page) && leaving.map_or(!self.is_full(), |gone| self.has(gone))
     }
 
-    // A hit of a resident page.
-    pub(crate) fn touch(&mut self, page: u32, t: u32)
-        ensures { model self.new ≡ touched (model self.old) page t }
+    // A hit of a page, if it is resident, and whether it is.
+    pub(crate) fn touch(&mut self, page: u32, t: u32) -> bool
+        ensures answer { result ≡ resident (model self.old) page }
+        ensures after { model self.new ≡ touched (model self.old) page t }
+        ensures refused { result ≡ false → self.new ≡ self.old }
     {
         let Some(block) = self.blocks.find(page) else {
-            return;
+            return false;
         };
         self.blocks.replace(block.refreshed(t, self.crp));
+        true
     }
 
     // Takes the retained block of a page out, and answers its HIST1, or 0 where there is none.

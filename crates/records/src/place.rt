@@ -1,7 +1,7 @@
 ghost use Rattle.std.specs.Prelude.{◌≡◌, ◌<◌, ◌≤◌, MatchOption};
 ghost use Rattle.records.specs.Layout.{record_in, place_of};
 
-use crate::RECORD;
+use crate::{PER_PAGE, RECORD};
 
 // The bytes of the record at a place of a page, and none past the last place.
 pub fn record_at(page: &[u8; 512], place: usize) -> Option<[u8; 32]>
@@ -9,5 +9,5 @@ pub fn record_at(page: &[u8; 512], place: usize) -> Option<[u8; 32]>
     ensures cases { MatchOption result (16 ≤ place) (λ bytes. (place < 16) × (bytes ≡ record_in page.now place)) }
 {
     let (records, _) = page.as_chunks::<RECORD>();
-    records.get(place).copied()
+    records[..PER_PAGE].get(place).copied()
 }

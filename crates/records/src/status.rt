@@ -27,7 +27,9 @@ impl TryFrom<u8> for Status {
     }
 }
 
-// The status of a record that has its status byte at a place, once the record is found well formed.
+// The status of a record that has its status byte at a place, once the record is found well formed. In each
+// kind's decoder the place is a constant, and the tests below are as long as it leaves them.
+#[inline(always)]
 pub(crate) fn status_at(bytes: &[u8; 32], at: usize) -> Result<Status, Malformed>
     requires { at < 32 }
     ensures { result ≡ status_of at bytes.now }

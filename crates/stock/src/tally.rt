@@ -3,7 +3,7 @@ ghost use Rattle.stock.specs.Tallies.{tally_more, tally_of};
 
 use crate::book::Book;
 use crate::entry::entry_of;
-use records::{Malformed, RECORD};
+use records::{Malformed, PER_PAGE, RECORD};
 
 // What stands on a page: records in use, malformed ones, and the sum of the amounts in cents.
 #[derive(Clone, Copy, Default, PartialEq, Eq, Debug)]
@@ -44,7 +44,7 @@ pub fn count_records(book: Book, page: &[u8; 512]) -> Tally
     let mut tally = Tally::default();
     let (records, _) = page.as_chunks::<RECORD>();
     // A loop, since `with` asks for room in the sums, which a closure could not tell of.
-    for record in records {
+    for record in &records[..PER_PAGE] {
         tally = tally.with(entry_of(book, record));
     }
     tally

@@ -1,5 +1,6 @@
-use Rattle.std.proofs.Common.{◌≡◌, List, length, sym, refl, ap, ◌∙◌, arith}
-use Rattle.recency.proofs.Pages.{length-renewed}
+use Rattle.std.proofs.Common.{◌≡◌, List, length, is_some, sym, refl, ap, ◌∙◌, arith}
+use Rattle.std.proofs.lemmas.Bool.{true≢false}
+use Rattle.recency.proofs.Pages.{has_record, length-renewed}
 use Rattle.policy.specs.Sets.{distinct}
 use Rattle.blocks.specs.declared.block.Block.{Block}
 use Rattle.blocks.specs.Blocks.{pages, renewed, refreshed}
@@ -11,7 +12,12 @@ use Rattle.lru_two.proofs.lru_two.LruTwo.touch.Goals as goal
 pub returns-in_default : goal.returns-in_default
 returns-in_default c =
     let s = c.args.self.now in
-    models (sym ((not-found c.args.page s.blocks (sym c.find.ensures ∙ c.in_default.is)).still (refreshed s.crp c.args.t))) refl
+    let none = sym c.find.ensures ∙ c.in_default.is in
+    record {
+      answer = sym (ap is_some none) ∙ has_record key c.args.page s.blocks;
+      after = models (sym ((not-found c.args.page s.blocks none).still (refreshed s.crp c.args.t))) refl;
+      refused = λ _. refl;
+    }
 
 pub invariant_of-self : goal.invariant_of-self
 invariant_of-self c =
@@ -28,4 +34,9 @@ invariant_of-self c =
 pub returns : goal.returns
 returns c =
     let s = c.args.self.now in
-    models (c.replace.ensures ∙ replaced-by (model s) c.args.page c.args.t c.in-Some.block c.refreshed.result (sym c.find.ensures ∙ c.in-Some.is) c.refreshed.ensures) refl
+    let some = sym c.find.ensures ∙ c.in-Some.is in
+    record {
+      answer = sym (ap is_some some) ∙ has_record key c.args.page s.blocks;
+      after = models (c.replace.ensures ∙ replaced-by (model s) c.args.page c.args.t c.in-Some.block c.refreshed.result some c.refreshed.ensures) refl;
+      refused = λ no. absurd (true≢false no);
+    }
