@@ -35,8 +35,7 @@ fn read_book(rt: &HostRuntime, name: &String) -> Result<Vec<u8>, BookProblem>
 fn read_defects(rt: &HostRuntime, name: &String) -> Result<DefectFile, BookProblem> {
     let heap = rt.alloc();
     let text = held(name, fs::read_to_string(rt, name.as_str()))?;
-    let lines: Vec<&str> = text.lines().collect(heap)?;
-    DefectFile::parse(heap, name.clone()?, &lines)
+    DefectFile::read(heap, name.clone()?, text.as_str())
 }
 
 // Reads the batch book, the fee book, the archive and the defect file. What a file gives is left open, but that each

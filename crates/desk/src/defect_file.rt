@@ -1,4 +1,7 @@
-ghost use Rattle.std.specs.Prelude.{◌≡◌, IfOk, MatchResult, map, vec_items};
+ghost use Rattle.std.specs.Prelude.{◌≡◌, ℕ, IfOk, List, MatchResult, map, vec_items};
+ghost use Rattle.std.specs.Iterator.{AlwaysYields, IsFinite};
+ghost use Rattle.std.specs.Iterator.Runs.{CountFits};
+ghost use Rattle.std.specs.Str.Lines.{lines as lines_of};
 ghost use Rattle.desk.specs.DefectFiles.{blamed, marks_in, Parsed, Unparsed};
 
 use crate::problem::BookProblem;
@@ -21,26 +24,47 @@ pub struct DefectFile {
     pub marks: Vec<LineMark>,
 }
 
+// Reads the lines that come from lines, one after another, and stops at the first that is no mark.
+fn of_lines<'a, I: Iterator<Item = &'a str> + Drop>(
+    heap: Global,
+    name: String,
+    lines: I,
+) -> Result<DefectFile, BookProblem>
+    requires can { I.can_next lines }
+    requires ends { IsFinite (I.remaining lines) }
+    requires fits { CountFits I.next_gives I.remaining 0 lines }
+    ensures { (ls : List (List ℕ)) → AlwaysYields I.next_gives (λ l. l.now) lines ls → MatchResult result (Parsed name (marks_in ls)) (Unparsed name (marks_in ls)) }
+{
+    let mut marks = Vec::new(heap);
+    // A loop, since the file's name moves into the problem of the first bad line.
+    for (before, words) in lines.enumerate() {
+        let line = before + 1;
+        let Ok(read) = read_defect_line(words.as_bytes()) else {
+            return Err(BookProblem::Line(name, line, NoMark));
+        };
+        if let Some(mark) = read {
+            marks
+                .push(LineMark { line, mark })
+                // A push fails for memory alone; the derived From has no contract for the proof.
+                .map_err(|_full| BookProblem::Memory(AllocError))?;
+        }
+    }
+    Ok(DefectFile { name, marks })
+}
+
 impl DefectFile {
+    // Reads a defect file's text, line by line: each line is a mark, blank or a comment.
+    pub fn read(heap: Global, name: String, text: &str) -> Result<DefectFile, BookProblem>
+        ensures { MatchResult result (Parsed name (marks_in (lines_of text.now))) (Unparsed name (marks_in (lines_of text.now))) }
+    {
+        of_lines(heap, name, text.lines())
+    }
+
     // Reads the lines of a defect file, each of which is a mark, blank or a comment.
     pub fn parse(heap: Global, name: String, lines: &[&str]) -> Result<DefectFile, BookProblem>
         ensures { MatchResult result (Parsed name (marks_in (map (λ l. l.now) lines.now))) (Unparsed name (marks_in (map (λ l. l.now) lines.now))) }
     {
-        let mut marks = Vec::new(heap);
-        // A loop, since the file's name moves into the problem of the first bad line.
-        for (before, words) in lines.iter().enumerate() {
-            let line = before + 1;
-            let Ok(read) = read_defect_line(words.as_bytes()) else {
-                return Err(BookProblem::Line(name, line, NoMark));
-            };
-            if let Some(mark) = read {
-                marks
-                    .push(LineMark { line, mark })
-                    // A push fails for memory alone; the derived From has no contract for the proof.
-                    .map_err(|_full| BookProblem::Memory(AllocError))?;
-            }
-        }
-        Ok(DefectFile { name, marks })
+        of_lines(heap, name, lines.iter().copied())
     }
 
     // The marks without their lines.

@@ -1,4 +1,4 @@
-use crate::{BookProblem, Books, DefectFile, Table, read_books};
+use crate::{BookProblem, Books, DefectFile, LineMark, Table, read_books};
 use defects::{Defect, Mark};
 use page::{Origin, Refusal, State};
 use std::alloc::{AllocError, Global};
@@ -76,6 +76,42 @@ fn a_line_that_is_no_mark_is_told(rt: HostRuntime) -> Result<(), Fail> {
     assert_eq!(rt;
         told.as_str(),
         "line 2 of d is no mark: write a page number and worn or lost, as `3 worn`"
+    );
+    Ok(())
+}
+
+#[test]
+fn a_text_is_read_line_by_line(rt: HostRuntime) -> Result<(), Fail> {
+    let heap = rt.alloc();
+    let text = "\n# bad pages\r\n1 worn\r\n\n\r\n30 lost\n# 2 worn\n5 worn";
+    let file = DefectFile::read(heap, name(heap, "d")?, text)?;
+    assert_eq!(rt; file.name.as_str(), "d");
+    let marked = |line, page, defect| LineMark {
+        line,
+        mark: Mark { page, defect },
+    };
+    let wanted = [
+        marked(3, 1, Defect::Worn),
+        marked(6, 30, Defect::Lost),
+        marked(8, 5, Defect::Worn),
+    ];
+    assert_eq!(rt; file.marks.as_slice(), wanted.as_slice());
+    let empty = DefectFile::read(heap, name(heap, "d")?, "")?;
+    assert!(rt; empty.marks.is_empty());
+    Ok(())
+}
+
+#[test]
+fn a_text_is_refused_at_its_first_bad_line(rt: HostRuntime) -> Result<(), Fail> {
+    let heap = rt.alloc();
+    let text = "# bad pages\r\n\r\n3 worn\r\n3 losst\r\nworse\r\n4 lost\r\n";
+    let Err(line) = DefectFile::read(heap, name(heap, "d")?, text) else {
+        return Err(Fail::new("a word was read as a mark"));
+    };
+    let told = line.to_string(heap)?;
+    assert_eq!(rt;
+        told.as_str(),
+        "line 4 of d is no mark: write a page number and worn or lost, as `3 worn`"
     );
     Ok(())
 }
