@@ -24,7 +24,8 @@ pub struct DefectFile {
     pub marks: Vec<LineMark>,
 }
 
-// Reads the lines that come from lines, one after another, and stops at the first that is no mark.
+// Reads the lines that an iterator gives, one after another: each is a mark, blank or a comment. It stops at the
+// first that is none of these.
 fn of_lines<'a, I: Iterator<Item = &'a str> + Drop>(
     heap: Global,
     name: String,

@@ -75,6 +75,7 @@ impl<T: Fields> Record<T> {
     }
 
     // The record in 32 bytes.
+    #[inline(always)]
     pub fn decode(bytes: &[u8; 32]) -> Result<Record<T>, Malformed>
         ensures value { result ≡ record_of T.STATUS T.read bytes.now }
         ensures only { IfOk result (λ x. record_bytes T.STATUS T.written x ≡ bytes.now) }

@@ -27,8 +27,8 @@ impl TryFrom<u8> for Status {
     }
 }
 
-// The status of a record that has its status byte at a place, once the record is found well formed. In each
-// kind's decoder the place is a constant, and the tests below are as long as it leaves them.
+// The status of a record that has its status byte at a place, once the record is found well formed.
+// Inlined into each kind's decoder, where the place is a constant, and with it how many bytes are tested.
 #[inline(always)]
 pub(crate) fn status_at(bytes: &[u8; 32], at: usize) -> Result<Status, Malformed>
     requires { at < 32 }
